@@ -1,0 +1,80 @@
+-- Codes are read back as the cases that they stand for.
+use mathlib.Core.Path.{_≡_, refl, sym, ap, _∙_}
+use mathlib.Core.Bool.{Bool, true, false, cond, _&&_}
+use mathlib.Core.List.{List, [], _∷_, _++_, map}
+use Prim.Native.Nat.{ℕ}
+use native.Mathlib.Omega.{arith}
+use lib.Dec.{eqb}
+use Rattle.std.specs.declared.option.Option.{Option}
+use Rattle.std.specs.declared.option.Option.the-variants.{Some, None}
+use Rattle.std.proofs.shelf.Tests.{cond-true, cond-false, eqb-true, ne-eqb, and-left}
+use Rattle.feed.specs.Codes.{first, coded, seriesEvents, seriesCode, underlyingEvents, underlyingCode, events, eventCode, eventByte, resetByte}
+use Rattle.feed.specs.declared.codes.SeriesEvent.{SeriesEvent}
+use Rattle.feed.specs.declared.codes.UnderlyingEvent.{UnderlyingEvent}
+use Rattle.feed.specs.declared.codes.EventCode.{EventCode}
+use Rattle.feed.specs.declared.codes.EventCode.the-variants.{Series, Underlying, Reset}
+
+-- what `first` finds passes the test
+pub first-passes : {E : Type 0} (test : E → Bool) (es : List E) (e : E) → first test es ≡ Some e → test e ≡ true
+first-passes test [] e h = let z : _≡_ {A = ℕ} 0 1 = cc in absurd (omega arith)
+first-passes test (d ∷ ds) e h = by (test d) refl h (λ k. first-passes test ds e k)
+  where
+    by : (b : Bool) → test d ≡ b → cond b (Some d) (first test ds) ≡ Some e → (first test ds ≡ Some e → test e ≡ true) → test e ≡ true
+    by true t f later = let same : d ≡ e = cc in ap test (sym same) ∙ t
+    by false t f later = later f
+
+pub coded-is : {E : Type 0} (code : E → ℕ) (es : List E) (byte : ℕ) (e : E) → coded code es byte ≡ Some e → byte ≡ code e
+coded-is code es byte e h = eqb-true byte (code e) (first-passes (λ e. eqb byte (code e)) es e h)
+
+-- a search through cases of another enum, and then through the rest
+module _ {A E : Type 0} (test : E → Bool) (f : A → E) (rest : List E) where
+  first-map : (own : A → Bool) → ((a : A) → test (f a) ≡ own a) → (xs : List A) → (a : A) → first own xs ≡ Some a → first test (map f xs ++ rest) ≡ Some (f a)
+  first-map own same [] a h = let z : _≡_ {A = ℕ} 0 1 = cc in absurd (omega arith)
+  first-map own same (b ∷ bs) a h = by (own b) refl h (λ k. first-map own same bs a k)
+    where
+      by : (t : Bool) → own b ≡ t → cond t (Some b) (first own bs) ≡ Some a → (first own bs ≡ Some a → first test (map f bs ++ rest) ≡ Some (f a)) → first test (map f (b ∷ bs) ++ rest) ≡ Some (f a)
+      by true t g later = let e : b ≡ a = cc in cond-true _ _ _ (same b ∙ t) ∙ ap (λ x. Some (f x)) e
+      by false t g later = cond-false _ _ _ (same b ∙ t) ∙ later g
+
+  first-past : (own : A → Bool) → ((a : A) → test (f a) ≡ own a) → (xs : List A) → first own xs ≡ None → first test (map f xs ++ rest) ≡ first test rest
+  first-past own same [] h = refl
+  first-past own same (b ∷ bs) h = by (own b) refl h (λ k. first-past own same bs k)
+    where
+      by : (t : Bool) → own b ≡ t → cond t (Some b) (first own bs) ≡ None → (first own bs ≡ None → first test (map f bs ++ rest) ≡ first test rest) → first test (map f (b ∷ bs) ++ rest) ≡ first test rest
+      by true t g later = let z : _≡_ {A = ℕ} 0 1 = cc in absurd (omega arith)
+      by false t g later = cond-false _ _ _ (same b ∙ t) ∙ later g
+
+none-pass : {A : Type 0} (xs : List A) → first (λ a. false) xs ≡ None
+none-pass [] = refl
+none-pass (a ∷ xs) = none-pass xs
+
+-- which event a pair of codes is
+abbrev is : ℕ → ℕ → EventCode → Bool
+is event reset e = eqb reset (resetByte e) && eqb event (eventByte e)
+
+abbrev last : List EventCode
+last = Reset ∷ []
+
+abbrev later : List EventCode
+later = map Underlying underlyingEvents ++ last
+
+module _ (event : ℕ) where
+  pub event-series : (code : SeriesEvent) → coded seriesCode seriesEvents event ≡ Some code → eventCode event 67 ≡ Some (Series code)
+  unfolding eventCode
+  event-series code h = first-map (is event 67) Series later (λ a. eqb event (seriesCode a)) (λ a. refl) seriesEvents code h
+
+  past-series : coded seriesCode seriesEvents event ≡ None → eventCode event 67 ≡ first (is event 67) later
+  unfolding eventCode
+  past-series h = first-past (is event 67) Series later (λ a. eqb event (seriesCode a)) (λ a. refl) seriesEvents h
+
+  pub event-underlying : (code : UnderlyingEvent) → coded seriesCode seriesEvents event ≡ None → coded underlyingCode underlyingEvents event ≡ Some code → eventCode event 67 ≡ Some (Underlying code)
+  event-underlying code h k = past-series h ∙ first-map (is event 67) Underlying last (λ a. eqb event (underlyingCode a)) (λ a. refl) underlyingEvents code k
+
+  pub event-none : coded seriesCode seriesEvents event ≡ None → coded underlyingCode underlyingEvents event ≡ None → eventCode event 67 ≡ None
+  event-none h k = past-series h ∙ first-past (is event 67) Underlying last (λ a. eqb event (underlyingCode a)) (λ a. refl) underlyingEvents k
+
+  pub event-other : (reset : ℕ) → (reset ≡ 67 → ⊥) → eventCode event reset ≡ cond (eqb reset 82 && eqb event 73) (Some Reset) None
+  unfolding eventCode
+  event-other reset h =
+      first-past (is event reset) Series later (λ a. false) (λ a. and-left _ _ (ne-eqb _ _ h)) seriesEvents (none-pass seriesEvents)
+      ∙ first-past (is event reset) Underlying last (λ a. false) (λ a. and-left _ _ (ne-eqb _ _ h)) underlyingEvents (none-pass underlyingEvents)

@@ -1,0 +1,135 @@
+-- What the first message of some bytes is read as, if it is not broken.
+use mathlib.Core.Bool.{Bool, true, false, cond, _&&_}
+use mathlib.Core.List.{List}
+use Prim.Native.Nat.{ℕ}
+use lib.Dec.{eqb, leb}
+use lib.ListN.{length, take}
+use Rattle.std.specs.declared.option.Option.{Option}
+use Rattle.std.specs.declared.option.Option.the-variants.{Some, None}
+use Rattle.std.specs.declared.result.Result.{Result}
+use Rattle.std.specs.declared.result.Result.the-variants.{Ok, Err}
+use Rattle.std.specs.Options.{isSome, valueOr}
+use Rattle.feed.specs.Codes.{coded, sides, sideCode, levels, levelNumber, auctions, auctionCode, eventCode}
+use Rattle.feed.specs.Content.{Content, quote, imbalance, event}
+use Rattle.feed.specs.Refusals.{Returned, placed}
+use Rattle.feed.specs.Symbols.{wellFormed}
+use Rattle.feed.specs.Wire.{byte, be16, be32, part}
+use Rattle.feed.specs.declared.codes.Side.{Side}
+use Rattle.feed.specs.declared.codes.Side.the-variants as side
+use Rattle.feed.specs.declared.codes.Level.{Level}
+use Rattle.feed.specs.declared.codes.Level.the-variants as level
+use Rattle.feed.specs.declared.codes.Auction.{Auction}
+use Rattle.feed.specs.declared.codes.Auction.the-variants as auction
+use Rattle.feed.specs.declared.codes.EventCode.{EventCode}
+use Rattle.feed.specs.declared.codes.EventCode.the-variants.{Series, Underlying, Reset}
+use Rattle.feed.specs.declared.fields.QuoteFields.{QuoteFields}
+use Rattle.feed.specs.declared.fields.ImbalanceFields.{ImbalanceFields}
+use Rattle.feed.specs.declared.fields.EventFields.{EventFields}
+use Rattle.feed.specs.declared.fields.EventForm.{EventForm}
+use Rattle.feed.specs.declared.fields.EventForm.the-variants as form
+
+-- a number that M packets and numbered messages carry
+abbrev pub inRange : ℕ → Bool
+inRange number = leb 1 number && leb number 4294967294
+
+-- number and symbol
+abbrev pub named : List ℕ → Bool
+named own = inRange (be32 own 8) && wellFormed (part own 32 8)
+
+abbrev pub sideAt : List ℕ → ℕ → Option Side
+sideAt own at = coded sideCode sides (byte own at)
+
+abbrev pub levelAt : List ℕ → ℕ → Option Level
+levelAt own at = coded levelNumber levels (byte own at)
+
+abbrev pub auctionAt : List ℕ → ℕ → Option Auction
+auctionAt own at = coded auctionCode auctions (byte own at)
+
+-- A quote's own 52 bytes: whether they are good, and their fields. A code that is none is taken for some case, so
+-- that the fields are there for any bytes.
+unfoldable pub goodQuote : List ℕ → Bool
+goodQuote own = named own && isSome (sideAt own 41) && isSome (levelAt own 42) && isSome (levelAt own 43)
+
+unfoldable pub quoteFields : List ℕ → QuoteFields
+quoteFields own =
+    record {
+      stamp = be32 own 4;
+      number = be32 own 8;
+      symbol = part own 32 8;
+      side = valueOr (sideAt own 41) side.Offer;
+      insert = valueOr (levelAt own 42) level.Fifth;
+      delete = valueOr (levelAt own 43) level.Fifth;
+      contracts = be32 own 44;
+      price = be32 own 48;
+    }
+
+-- an imbalance's own 60 bytes
+unfoldable pub goodImbalance : List ℕ → Bool
+goodImbalance own = named own && isSome (auctionAt own 41) && leb (be16 own 42) 2400
+
+unfoldable pub imbalanceFields : List ℕ → ImbalanceFields
+imbalanceFields own =
+    record {
+      stamp = be32 own 4;
+      number = be32 own 8;
+      symbol = part own 32 8;
+      auction = valueOr (auctionAt own 41) auction.Closing;
+      time = be16 own 42;
+      contracts = be32 own 44;
+      price = be32 own 48;
+      total = be32 own 52;
+      market = be32 own 56;
+    }
+
+-- an event's own 44 bytes
+abbrev pub goodForm : List ℕ → Option EventCode → Bool
+goodForm own None = false
+goodForm own (Some (Series code)) = named own
+goodForm own (Some (Underlying code)) = true
+goodForm own (Some Reset) = true
+
+abbrev pub formOf : List ℕ → Option EventCode → EventForm
+formOf own None = form.Reset
+formOf own (Some (Series code)) = form.Numbered (be32 own 8) (part own 32 8) code
+formOf own (Some (Underlying code)) = form.Underlying code
+formOf own (Some Reset) = form.Reset
+
+unfoldable pub goodEvent : List ℕ → Bool
+goodEvent own = goodForm own (eventCode (byte own 42) (byte own 43))
+
+unfoldable pub eventFields : List ℕ → EventFields
+eventFields own = record { stamp = be32 own 4; form = formOf own (eventCode (byte own 42) (byte own 43)) }
+
+-- c, where the test passes
+abbrev pub when : Bool → Content → Option Content
+when true c = Some c
+when false c = None
+
+abbrev pub quoteIn : List ℕ → Option Content
+quoteIn own = when (goodQuote own) (quote (quoteFields own))
+
+abbrev pub imbalanceIn : List ℕ → Option Content
+imbalanceIn own = when (goodImbalance own) (imbalance (imbalanceFields own))
+
+abbrev pub eventIn : List ℕ → Option Content
+eventIn own = when (goodEvent own) (event (eventFields own))
+
+-- the bytes start with a whole message of this length, type and subscription, by its header
+abbrev pub starts : (len type subscription : ℕ) → List ℕ → Bool
+starts len type subscription bytes = leb len (length bytes) && eqb (be16 bytes 0) len && eqb (byte bytes 2) type && eqb (byte bytes 3) subscription
+
+-- the content of the first message of some bytes, by its type: q, i or v
+unfoldable pub message : ℕ → List ℕ → Option Content
+message subscription bytes =
+    cond (starts 52 113 subscription bytes) (quoteIn (take 52 bytes))
+    (cond (starts 60 105 subscription bytes) (imbalanceIn (take 60 bytes))
+    (cond (starts 44 118 subscription bytes) (eventIn (take 44 bytes))
+    None))
+
+-- the same for bytes at an offset of a packet, or the refusal
+abbrev pub judged : ℕ → Option Content → Result Content Returned
+judged offset (Some c) = Ok c
+judged offset None = Err (placed 5 offset)
+
+abbrev pub verdict : (subscription offset : ℕ) → List ℕ → Result Content Returned
+verdict subscription offset bytes = judged offset (message subscription bytes)

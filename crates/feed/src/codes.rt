@@ -1,0 +1,234 @@
+// The codes of the feed's fields, as enums.
+ghost use mathlib.Core.Path.{_≡_};
+ghost use Rattle.feed.specs.Codes.{coded, sides, sideCode, levels, levelNumber, auctions, auctionCode, seriesEvents, seriesCode, underlyingEvents, underlyingCode, eventCode, eventByte, resetByte};
+
+#[derive(Clone, Copy)]
+pub enum Side {
+    Bid,
+    Offer,
+}
+
+impl Side {
+    // The side that a code stands for: `B` or `S`.
+    pub(crate) fn from_code(code: u8) -> Option<Side>
+        ensures { λ r. ⌜ r ≡ coded sideCode sides code ⌝ }
+    {
+        match code {
+            b'B' => Some(Side::Bid),
+            b'S' => Some(Side::Offer),
+            _ => None,
+        }
+    }
+
+    pub fn code(self) -> u8
+        ensures { λ r. ⌜ r ≡ sideCode self ⌝ }
+    {
+        match self {
+            Side::Bid => b'B',
+            Side::Offer => b'S',
+        }
+    }
+}
+
+// A price level, the best one first.
+#[derive(Clone, Copy)]
+pub enum Level {
+    First,
+    Second,
+    Third,
+    Fourth,
+    Fifth,
+}
+
+impl Level {
+    // The level of a number from 1 to 5.
+    pub(crate) fn from_number(number: u8) -> Option<Level>
+        ensures { λ r. ⌜ r ≡ coded levelNumber levels number ⌝ }
+    {
+        match number {
+            1 => Some(Level::First),
+            2 => Some(Level::Second),
+            3 => Some(Level::Third),
+            4 => Some(Level::Fourth),
+            5 => Some(Level::Fifth),
+            _ => None,
+        }
+    }
+
+    pub fn number(self) -> u8
+        ensures { λ r. ⌜ r ≡ levelNumber self ⌝ }
+    {
+        match self {
+            Level::First => 1,
+            Level::Second => 2,
+            Level::Third => 3,
+            Level::Fourth => 4,
+            Level::Fifth => 5,
+        }
+    }
+}
+
+// The auction that an imbalance is of.
+#[derive(Clone, Copy)]
+pub enum Auction {
+    Open,
+    Market,
+    Halt,
+    Closing,
+}
+
+impl Auction {
+    pub(crate) fn from_code(code: u8) -> Option<Auction>
+        ensures { λ r. ⌜ r ≡ coded auctionCode auctions code ⌝ }
+    {
+        match code {
+            b'O' => Some(Auction::Open),
+            b'M' => Some(Auction::Market),
+            b'H' => Some(Auction::Halt),
+            b'C' => Some(Auction::Closing),
+            _ => None,
+        }
+    }
+
+    pub fn code(self) -> u8
+        ensures { λ r. ⌜ r ≡ auctionCode self ⌝ }
+    {
+        match self {
+            Auction::Open => b'O',
+            Auction::Market => b'M',
+            Auction::Halt => b'H',
+            Auction::Closing => b'C',
+        }
+    }
+}
+
+// An event of one series, which carries a number and a symbol.
+#[derive(Clone, Copy)]
+pub enum SeriesEvent {
+    ClearOffer,
+    ClearBid,
+    ClearSeries,
+    LightUp,
+    DarkOpen,
+    Open,
+    Halt,
+    DarkUnhalt,
+    Unhalt,
+    Close,
+}
+
+impl SeriesEvent {
+    pub(crate) fn from_code(code: u8) -> Option<SeriesEvent>
+        ensures { λ r. ⌜ r ≡ coded seriesCode seriesEvents code ⌝ }
+    {
+        match code {
+            b'A' => Some(SeriesEvent::ClearOffer),
+            b'B' => Some(SeriesEvent::ClearBid),
+            b'C' => Some(SeriesEvent::ClearSeries),
+            b'L' => Some(SeriesEvent::LightUp),
+            b'N' => Some(SeriesEvent::DarkOpen),
+            b'O' => Some(SeriesEvent::Open),
+            b'S' => Some(SeriesEvent::Halt),
+            b'T' => Some(SeriesEvent::DarkUnhalt),
+            b'U' => Some(SeriesEvent::Unhalt),
+            b'X' => Some(SeriesEvent::Close),
+            _ => None,
+        }
+    }
+
+    pub fn code(self) -> u8
+        ensures { λ r. ⌜ r ≡ seriesCode self ⌝ }
+    {
+        match self {
+            SeriesEvent::ClearOffer => b'A',
+            SeriesEvent::ClearBid => b'B',
+            SeriesEvent::ClearSeries => b'C',
+            SeriesEvent::LightUp => b'L',
+            SeriesEvent::DarkOpen => b'N',
+            SeriesEvent::Open => b'O',
+            SeriesEvent::Halt => b'S',
+            SeriesEvent::DarkUnhalt => b'T',
+            SeriesEvent::Unhalt => b'U',
+            SeriesEvent::Close => b'X',
+        }
+    }
+}
+
+// An event of an underlying, whose number and symbol are not read.
+#[derive(Clone, Copy)]
+pub enum UnderlyingEvent {
+    Open,
+    Halt,
+    Unhalt,
+    Close,
+}
+
+impl UnderlyingEvent {
+    pub(crate) fn from_code(code: u8) -> Option<UnderlyingEvent>
+        ensures { λ r. ⌜ r ≡ coded underlyingCode underlyingEvents code ⌝ }
+    {
+        match code {
+            b'o' => Some(UnderlyingEvent::Open),
+            b's' => Some(UnderlyingEvent::Halt),
+            b'u' => Some(UnderlyingEvent::Unhalt),
+            b'x' => Some(UnderlyingEvent::Close),
+            _ => None,
+        }
+    }
+
+    pub fn code(self) -> u8
+        ensures { λ r. ⌜ r ≡ underlyingCode self ⌝ }
+    {
+        match self {
+            UnderlyingEvent::Open => b'o',
+            UnderlyingEvent::Halt => b's',
+            UnderlyingEvent::Unhalt => b'u',
+            UnderlyingEvent::Close => b'x',
+        }
+    }
+}
+
+// What an event's two code bytes say together.
+#[derive(Clone, Copy)]
+pub enum EventCode {
+    Series(SeriesEvent),
+    Underlying(UnderlyingEvent),
+    Reset,
+}
+
+impl EventCode {
+    // The event of an event code and a reset code: `I` with `R` is the reset, every other event has `C`.
+    pub(crate) fn from_codes(event: u8, reset: u8) -> Option<EventCode>
+        ensures { λ r. ⌜ r ≡ eventCode event reset ⌝ }
+    {
+        if reset != b'C' {
+            return if reset == b'R' && event == b'I' { Some(EventCode::Reset) } else { None };
+        }
+        match SeriesEvent::from_code(event) {
+            Some(code) => Some(EventCode::Series(code)),
+            None => match UnderlyingEvent::from_code(event) {
+                Some(code) => Some(EventCode::Underlying(code)),
+                None => None,
+            },
+        }
+    }
+
+    pub fn event_code(self) -> u8
+        ensures { λ r. ⌜ r ≡ eventByte self ⌝ }
+    {
+        match self {
+            EventCode::Series(code) => code.code(),
+            EventCode::Underlying(code) => code.code(),
+            EventCode::Reset => b'I',
+        }
+    }
+
+    pub fn reset_code(self) -> u8
+        ensures { λ r. ⌜ r ≡ resetByte self ⌝ }
+    {
+        match self {
+            EventCode::Series(_) | EventCode::Underlying(_) => b'C',
+            EventCode::Reset => b'R',
+        }
+    }
+}

@@ -1,0 +1,57 @@
+// What each message says, field by field: what is read from a message, and what one is written from.
+use crate::codes::Auction;
+use crate::codes::Level;
+use crate::codes::SeriesEvent;
+use crate::codes::Side;
+use crate::codes::UnderlyingEvent;
+use crate::symbol::Symbol;
+
+// One price level of one side changes: the delete level goes, then this one comes in as the insert level.
+#[derive(Clone, Copy)]
+pub struct QuoteFields {
+    // Milliseconds since midnight.
+    pub stamp: u32,
+    pub number: u32,
+    pub symbol: Symbol,
+    pub side: Side,
+    pub insert: Level,
+    pub delete: Level,
+    pub contracts: u32,
+    // In ten-thousandths.
+    pub price: u32,
+}
+
+// What an auction would trade, and what it would leave over.
+#[derive(Clone, Copy)]
+pub struct ImbalanceFields {
+    pub stamp: u32,
+    pub number: u32,
+    pub symbol: Symbol,
+    pub auction: Auction,
+    // Hours times 100, plus minutes.
+    pub time: u16,
+    pub contracts: u32,
+    pub price: u32,
+    pub total: u32,
+    pub market: u32,
+}
+
+#[derive(Clone, Copy)]
+pub struct EventFields {
+    pub stamp: u32,
+    pub form: EventForm,
+}
+
+#[derive(Clone, Copy)]
+pub enum EventForm {
+    // Of one series: it takes its place among that series' numbers.
+    Numbered {
+        number: u32,
+        symbol: Symbol,
+        code: SeriesEvent,
+    },
+    // Of all series of an underlying: it changes no book.
+    Underlying(UnderlyingEvent),
+    // The packet that starts with it starts a session.
+    Reset,
+}

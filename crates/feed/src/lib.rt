@@ -1,0 +1,8 @@
+// Packets and messages of the feed, read from bytes without copying them.
+pub mod codes;
+pub mod fields;
+pub mod message;
+pub mod numbers;
+pub mod read;
+pub mod refusal;
+pub mod symbol;

@@ -1,0 +1,106 @@
+// Reads the first message of some bytes.
+ghost use mathlib.Core.Path.{_≡_};
+ghost use Prim.Native.Nat.{_≤_};
+ghost use lib.ListN.{length, take};
+ghost use Rattle.std.specs.Options.{mapped};
+ghost use Rattle.std.specs.Slices.{found};
+ghost use Rattle.feed.specs.Content.{size};
+ghost use Rattle.feed.specs.Messages.{content, ownBytes};
+ghost use Rattle.feed.specs.Verdict.{named, goodQuote, goodImbalance, goodEvent, quoteIn, imbalanceIn, eventIn, message};
+use crate::codes::Auction;
+use crate::codes::EventCode;
+use crate::codes::Level;
+use crate::codes::Side;
+use crate::message::Event;
+use crate::message::Imbalance;
+use crate::message::Message;
+use crate::message::Quote;
+use crate::numbers::in_range;
+use crate::numbers::read_u16;
+use crate::numbers::read_u32;
+use crate::symbol::is_well_formed;
+
+// Whether the number is in its range and the symbol well formed.
+fn is_named(own: &[u8]) -> bool
+    requires { ⌜ 40 ≤ length (now own) ⌝ }
+    ensures { λ r. ⌜ r ≡ named (now (own .entry)) ⌝ }
+{
+    in_range(read_u32(own, 8)) && is_well_formed(&own[32..40])
+}
+
+fn is_good_quote(own: &[u8; 52]) -> bool
+    ensures { λ r. ⌜ r ≡ goodQuote (now (own .entry)) ⌝ }
+{
+    is_named(own)
+        && Side::from_code(own[41]).is_some()
+        && Level::from_number(own[42]).is_some()
+        && Level::from_number(own[43]).is_some()
+}
+
+fn is_good_imbalance(own: &[u8; 60]) -> bool
+    ensures { λ r. ⌜ r ≡ goodImbalance (now (own .entry)) ⌝ }
+{
+    is_named(own) && Auction::from_code(own[41]).is_some() && read_u16(own, 42) <= 2400
+}
+
+fn is_good_event(own: &[u8; 44]) -> bool
+    ensures { λ r. ⌜ r ≡ goodEvent (now (own .entry)) ⌝ }
+{
+    match EventCode::from_codes(own[42], own[43]) {
+        Some(EventCode::Series(_)) => is_named(own),
+        Some(_) => true,
+        None => false,
+    }
+}
+
+fn read_quote(own: &[u8; 52]) -> Option<Message<'_>>
+    ensures content { λ r. ⌜ mapped content r ≡ quoteIn (now (own .entry)) ⌝ }
+    ensures own { λ r. ⌜ found r (λ m. (ownBytes m ≡ now (own .entry)) × (size (content m) ≡ 52)) ⌝ }
+{
+    if is_good_quote(own) {
+        Some(Message::Quote(Quote { bytes: own }))
+    } else {
+        None
+    }
+}
+
+fn read_imbalance(own: &[u8; 60]) -> Option<Message<'_>>
+    ensures content { λ r. ⌜ mapped content r ≡ imbalanceIn (now (own .entry)) ⌝ }
+    ensures own { λ r. ⌜ found r (λ m. (ownBytes m ≡ now (own .entry)) × (size (content m) ≡ 60)) ⌝ }
+{
+    if is_good_imbalance(own) {
+        Some(Message::Imbalance(Imbalance { bytes: own }))
+    } else {
+        None
+    }
+}
+
+fn read_event(own: &[u8; 44]) -> Option<Message<'_>>
+    ensures content { λ r. ⌜ mapped content r ≡ eventIn (now (own .entry)) ⌝ }
+    ensures own { λ r. ⌜ found r (λ m. (ownBytes m ≡ now (own .entry)) × (size (content m) ≡ 44)) ⌝ }
+{
+    if is_good_event(own) {
+        Some(Message::Event(Event { bytes: own }))
+    } else {
+        None
+    }
+}
+
+fn first_message(bytes: &[u8], subscription: u8) -> Option<Message<'_>>
+    ensures content { λ r. ⌜ mapped content r ≡ message subscription (now (bytes .entry)) ⌝ }
+    ensures own { λ r. ⌜ found r (λ m. ownBytes m ≡ take (size (content m)) (now (bytes .entry))) ⌝ }
+{
+    let [l0, l1, kind, own_subscription, _, _, _, _, rest @ ..] = bytes else {
+        return None;
+    };
+    let length = u16::from_be_bytes([*l0, *l1]);
+    if *own_subscription != subscription || rest.len() + 8 < length as usize {
+        return None;
+    }
+    match (*kind, length) {
+        (b'q', 52) => read_quote(bytes.first_chunk::<52>()?),
+        (b'i', 60) => read_imbalance(bytes.first_chunk::<60>()?),
+        (b'v', 44) => read_event(bytes.first_chunk::<44>()?),
+        _ => None,
+    }
+}
