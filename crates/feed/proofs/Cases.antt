@@ -7,10 +7,19 @@ use native.Mathlib.Omega.{arith}
 use lib.Dec.{eqb}
 use Rattle.std.specs.declared.option.Option.{Option}
 use Rattle.std.specs.declared.option.Option.the-variants.{Some, None}
-use Rattle.std.proofs.shelf.Tests.{cond-true, cond-false, eqb-true, ne-eqb, and-left}
-use Rattle.feed.specs.Codes.{first, coded, seriesEvents, seriesCode, underlyingEvents, underlyingCode, events, eventCode, eventByte, resetByte}
+use Rattle.std.specs.Options.{isSome, valueOr}
+use Rattle.std.proofs.shelf.Tests.{cond-true, cond-false, eqb-true, ne-eqb, and-left, and-parts}
+use Rattle.feed.specs.Codes.{first, coded, sides, sideCode, levels, levelNumber, auctions, auctionCode, seriesEvents, seriesCode, underlyingEvents, underlyingCode, events, eventCode, eventByte, resetByte}
+use Rattle.feed.specs.declared.codes.Side.{Side}
+use Rattle.feed.specs.declared.codes.Side.the-variants as side
+use Rattle.feed.specs.declared.codes.Level.{Level}
+use Rattle.feed.specs.declared.codes.Level.the-variants as level
+use Rattle.feed.specs.declared.codes.Auction.{Auction}
+use Rattle.feed.specs.declared.codes.Auction.the-variants as auction
 use Rattle.feed.specs.declared.codes.SeriesEvent.{SeriesEvent}
+use Rattle.feed.specs.declared.codes.SeriesEvent.the-variants as series
 use Rattle.feed.specs.declared.codes.UnderlyingEvent.{UnderlyingEvent}
+use Rattle.feed.specs.declared.codes.UnderlyingEvent.the-variants as underlying
 use Rattle.feed.specs.declared.codes.EventCode.{EventCode}
 use Rattle.feed.specs.declared.codes.EventCode.the-variants.{Series, Underlying, Reset}
 
@@ -25,6 +34,56 @@ first-passes test (d ∷ ds) e h = by (test d) refl h (λ k. first-passes test d
 
 pub coded-is : {E : Type 0} (code : E → ℕ) (es : List E) (byte : ℕ) (e : E) → coded code es byte ≡ Some e → byte ≡ code e
 coded-is code es byte e h = eqb-true byte (code e) (first-passes (λ e. eqb byte (code e)) es e h)
+
+-- where a case is found, the byte is its code, whatever stands in for none
+pub coded-value : {E : Type 0} (code : E → ℕ) (es : List E) (byte : ℕ) (d : E) → isSome (coded code es byte) ≡ true → byte ≡ code (valueOr (coded code es byte) d)
+coded-value {E} code es byte d h = by (coded code es byte) refl h
+  where
+    by : (o : Option E) → coded code es byte ≡ o → isSome o ≡ true → byte ≡ code (valueOr o d)
+    by (Some e) f h = coded-is code es byte e f
+    by None f h = let z : _≡_ {A = ℕ} 0 1 = cc in absurd (omega arith)
+
+-- a case's own code is read as that case
+pub side-back : (s : Side) → coded sideCode sides (sideCode s) ≡ Some s
+side-back side.Bid = refl
+side-back side.Offer = refl
+
+pub level-back : (l : Level) → coded levelNumber levels (levelNumber l) ≡ Some l
+level-back level.First = refl
+level-back level.Second = refl
+level-back level.Third = refl
+level-back level.Fourth = refl
+level-back level.Fifth = refl
+
+pub auction-back : (a : Auction) → coded auctionCode auctions (auctionCode a) ≡ Some a
+auction-back auction.Open = refl
+auction-back auction.Market = refl
+auction-back auction.Halt = refl
+auction-back auction.Closing = refl
+
+pub event-back : (e : EventCode) → eventCode (eventByte e) (resetByte e) ≡ Some e
+unfolding eventCode
+event-back (Series series.ClearOffer) = refl
+event-back (Series series.ClearBid) = refl
+event-back (Series series.ClearSeries) = refl
+event-back (Series series.LightUp) = refl
+event-back (Series series.DarkOpen) = refl
+event-back (Series series.Open) = refl
+event-back (Series series.Halt) = refl
+event-back (Series series.DarkUnhalt) = refl
+event-back (Series series.Unhalt) = refl
+event-back (Series series.Close) = refl
+event-back (Underlying underlying.Open) = refl
+event-back (Underlying underlying.Halt) = refl
+event-back (Underlying underlying.Unhalt) = refl
+event-back (Underlying underlying.Close) = refl
+event-back Reset = refl
+
+pub event-is : (event reset : ℕ) (e : EventCode) → eventCode event reset ≡ Some e → (event ≡ eventByte e) × (reset ≡ resetByte e)
+unfolding eventCode
+event-is event reset e h =
+    let p = and-parts (eqb reset (resetByte e)) (eqb event (eventByte e)) (first-passes (λ e. eqb reset (resetByte e) && eqb event (eventByte e)) events e h) in
+    (eqb-true event (eventByte e) (p .1), eqb-true reset (resetByte e) (p .0))
 
 -- a search through cases of another enum, and then through the rest
 module _ {A E : Type 0} (test : E → Bool) (f : A → E) (rest : List E) where

@@ -1,3 +1,7 @@
 pub mod Cases
 pub mod Symbols
 pub mod Verdicts
+pub mod Layouts
+pub mod Readings
+pub mod Judgements
+pub mod Steps

@@ -16,29 +16,38 @@ use Rattle.feed.specs.Verdict.{message, starts, quoteIn, imbalanceIn, eventIn}
 use Rattle.feed.specs.Wire.{byte, be16}
 use Rattle.feed.specs.declared.message.Message.{Message}
 
+-- the bytes start with a header, and these are the message's own bytes
+pub record Front (len type subscription : ℕ) (bytes own : List ℕ) : Type 0 where
+  pub enough : len ≤ length bytes
+  pub length-field : be16 bytes 0 ≡ len
+  pub type-field : byte bytes 2 ≡ type
+  pub subscription-field : byte bytes 3 ≡ subscription
+  pub cut : own ≡ take len bytes
+
 module _ (subscription : ℕ) (bytes own : List ℕ) where
-  starts-with : (len type : ℕ) → len ≤ length bytes → be16 bytes 0 ≡ len → byte bytes 2 ≡ type → byte bytes 3 ≡ subscription → starts len type subscription bytes ≡ true
-  starts-with len type a b c d = grind (arith, tells)
+  starts-with : {len type : ℕ} → Front len type subscription bytes own → starts len type subscription bytes ≡ true
+  starts-with f =
+      and-from _ _ (and-from _ _ (and-from _ _ (le-leb _ _ (f .enough)) (eq-eqb _ _ (f .length-field))) (eq-eqb _ _ (f .type-field))) (eq-eqb _ _ (f .subscription-field))
 
   starts-not : (len type other : ℕ) → byte bytes 2 ≡ other → (other ≡ type → ⊥) → starts len type subscription bytes ≡ false
   starts-not len type other a b = grind (arith, tells)
 
-  pub message-quote : 52 ≤ length bytes → be16 bytes 0 ≡ 52 → byte bytes 2 ≡ 113 → byte bytes 3 ≡ subscription → own ≡ take 52 bytes → message subscription bytes ≡ quoteIn own
+  pub message-quote : Front 52 113 subscription bytes own → message subscription bytes ≡ quoteIn own
   unfolding message
-  message-quote a b c d e = cond-true _ _ _ (starts-with 52 113 a b c d) ∙ ap quoteIn (sym e)
+  message-quote f = cond-true _ _ _ (starts-with f) ∙ ap quoteIn (sym (f .cut))
 
-  pub message-imbalance : 60 ≤ length bytes → be16 bytes 0 ≡ 60 → byte bytes 2 ≡ 105 → byte bytes 3 ≡ subscription → own ≡ take 60 bytes → message subscription bytes ≡ imbalanceIn own
+  pub message-imbalance : Front 60 105 subscription bytes own → message subscription bytes ≡ imbalanceIn own
   unfolding message
-  message-imbalance a b c d e =
-      cond-false _ _ _ (starts-not 52 113 105 c (λ z. omega arith)) ∙ cond-true _ _ _ (starts-with 60 105 a b c d) ∙ ap imbalanceIn (sym e)
+  message-imbalance f =
+      cond-false _ _ _ (starts-not 52 113 105 (f .type-field) (λ z. omega arith)) ∙ cond-true _ _ _ (starts-with f) ∙ ap imbalanceIn (sym (f .cut))
 
-  pub message-event : 44 ≤ length bytes → be16 bytes 0 ≡ 44 → byte bytes 2 ≡ 118 → byte bytes 3 ≡ subscription → own ≡ take 44 bytes → message subscription bytes ≡ eventIn own
+  pub message-event : Front 44 118 subscription bytes own → message subscription bytes ≡ eventIn own
   unfolding message
-  message-event a b c d e =
-      cond-false _ _ _ (starts-not 52 113 118 c (λ z. omega arith))
-      ∙ cond-false _ _ _ (starts-not 60 105 118 c (λ z. omega arith))
-      ∙ cond-true _ _ _ (starts-with 44 118 a b c d)
-      ∙ ap eventIn (sym e)
+  message-event f =
+      cond-false _ _ _ (starts-not 52 113 118 (f .type-field) (λ z. omega arith))
+      ∙ cond-false _ _ _ (starts-not 60 105 118 (f .type-field) (λ z. omega arith))
+      ∙ cond-true _ _ _ (starts-with f)
+      ∙ ap eventIn (sym (f .cut))
 
   -- the message's own bytes are cut from the front
   pub own-front : (len : ℕ) (r : Option Message) → own ≡ take len bytes → found r (λ m. (ownBytes m ≡ own) × (size (content m) ≡ len)) → found r (λ m. ownBytes m ≡ take (size (content m)) bytes)

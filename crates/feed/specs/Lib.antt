@@ -5,3 +5,7 @@ pub mod Symbols
 pub mod Content
 pub mod Verdict
 pub mod Messages
+pub mod Layout
+pub mod Items
+pub mod Packets
+pub mod Pending

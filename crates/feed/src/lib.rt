@@ -3,6 +3,7 @@ pub mod codes;
 pub mod fields;
 pub mod message;
 pub mod numbers;
+pub mod packet;
 pub mod read;
 pub mod refusal;
 pub mod symbol;

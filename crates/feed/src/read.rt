@@ -1,12 +1,17 @@
 // Reads the first message of some bytes.
 ghost use mathlib.Core.Path.{_≡_};
+ghost use mathlib.Core.Logic.{_↔_};
 ghost use Prim.Native.Nat.{_≤_};
 ghost use lib.ListN.{length, take};
 ghost use Rattle.std.specs.Options.{mapped};
 ghost use Rattle.std.specs.Slices.{found};
-ghost use Rattle.feed.specs.Content.{size};
+ghost use Rattle.std.specs.Vec.{made};
+ghost use Rattle.std.specs.declared.result.Result.the-variants.{Ok};
+ghost use Rattle.feed.specs.Content.{Content, size};
+ghost use Rattle.feed.specs.Layout.{Begins};
 ghost use Rattle.feed.specs.Messages.{content, ownBytes};
-ghost use Rattle.feed.specs.Verdict.{named, goodQuote, goodImbalance, goodEvent, quoteIn, imbalanceIn, eventIn, message};
+ghost use Rattle.feed.specs.Refusals.{answered};
+ghost use Rattle.feed.specs.Verdict.{named, goodQuote, goodImbalance, goodEvent, quoteIn, imbalanceIn, eventIn, message, verdict};
 use crate::codes::Auction;
 use crate::codes::EventCode;
 use crate::codes::Level;
@@ -18,6 +23,7 @@ use crate::message::Quote;
 use crate::numbers::in_range;
 use crate::numbers::read_u16;
 use crate::numbers::read_u32;
+use crate::refusal::Refusal;
 use crate::symbol::is_well_formed;
 
 // Whether the number is in its range and the symbol well formed.
@@ -103,4 +109,13 @@ fn first_message(bytes: &[u8], subscription: u8) -> Option<Message<'_>>
         (b'v', 44) => read_event(bytes.first_chunk::<44>()?),
         _ => None,
     }
+}
+
+// The first message of `bytes`, which stand at `offset` of a packet with this subscription.
+pub fn read_message(bytes: &[u8], subscription: u8, offset: usize) -> Result<Message<'_>, Refusal>
+    ensures verdict { λ r. ⌜ answered content r ≡ verdict subscription offset (now (bytes .entry)) ⌝ }
+    ensures own { λ r. ⌜ made r (λ m. ownBytes m ≡ take (size (content m)) (now (bytes .entry))) ⌝ }
+    ensures laid { λ r. ⌜ ((c : Content) → (answered content r ≡ Ok c) ↔ Begins subscription (now (bytes .entry)) c) ⌝ }
+{
+    first_message(bytes, subscription).ok_or(Refusal::BrokenMessage(offset))
 }

@@ -23,7 +23,7 @@ returns-in-Continue-first-chunk c =
     let bytes = c .args .bytes .now in
     let own = c .in-Continue-first-chunk .field-0 .now in
     record {
-      content = c .read-quote .ensures .content ∙ sym (message-quote (c .args .subscription) bytes own (cut .enough) (sym (c .from-be-bytes-length .ensures) ∙ c .in-113-eq52 .is-1) (c .in-113-eq52 .is-0) (c .if-own-subscription-subscription .left) (cut .same));
+      content = c .read-quote .ensures .content ∙ sym (message-quote (c .args .subscription) bytes own record { enough = cut .enough; length-field = sym (c .from-be-bytes-length .ensures) ∙ c .in-113-eq52 .is-1; type-field = c .in-113-eq52 .is-0; subscription-field = c .if-own-subscription-subscription .left; cut = cut .same });
       own = own-front (c .args .subscription) bytes own 52 (c .read-quote .result) (cut .same) (c .read-quote .ensures .own);
     }
 
@@ -33,7 +33,7 @@ returns-in-Continue-first-chunk-2 c =
     let bytes = c .args .bytes .now in
     let own = c .in-Continue-first-chunk-2 .field-0 .now in
     record {
-      content = c .read-imbalance .ensures .content ∙ sym (message-imbalance (c .args .subscription) bytes own (cut .enough) (sym (c .from-be-bytes-length .ensures) ∙ c .in-105-eq60 .is-1) (c .in-105-eq60 .is-0) (c .if-own-subscription-subscription .left) (cut .same));
+      content = c .read-imbalance .ensures .content ∙ sym (message-imbalance (c .args .subscription) bytes own record { enough = cut .enough; length-field = sym (c .from-be-bytes-length .ensures) ∙ c .in-105-eq60 .is-1; type-field = c .in-105-eq60 .is-0; subscription-field = c .if-own-subscription-subscription .left; cut = cut .same });
       own = own-front (c .args .subscription) bytes own 60 (c .read-imbalance .result) (cut .same) (c .read-imbalance .ensures .own);
     }
 
@@ -43,6 +43,6 @@ returns-in-Continue-first-chunk-3 c =
     let bytes = c .args .bytes .now in
     let own = c .in-Continue-first-chunk-3 .field-0 .now in
     record {
-      content = c .read-event .ensures .content ∙ sym (message-event (c .args .subscription) bytes own (cut .enough) (sym (c .from-be-bytes-length .ensures) ∙ c .in-118-eq44 .is-1) (c .in-118-eq44 .is-0) (c .if-own-subscription-subscription .left) (cut .same));
+      content = c .read-event .ensures .content ∙ sym (message-event (c .args .subscription) bytes own record { enough = cut .enough; length-field = sym (c .from-be-bytes-length .ensures) ∙ c .in-118-eq44 .is-1; type-field = c .in-118-eq44 .is-0; subscription-field = c .if-own-subscription-subscription .left; cut = cut .same });
       own = own-front (c .args .subscription) bytes own 44 (c .read-event .result) (cut .same) (c .read-event .ensures .own);
     }

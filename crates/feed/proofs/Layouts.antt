@@ -1,0 +1,134 @@
+-- Bytes that are laid out as a message are read as that message.
+use mathlib.Core.Path.{_≡_, refl, sym, ap, subst, _∙_}
+use mathlib.Core.Bool.{Bool, true, false, cond, _&&_}
+use mathlib.Core.List.{List, [], _∷_, _++_}
+use Prim.Native.Nat.{ℕ, _+_, _*_, _≤_, _<_}
+use native.Mathlib.Omega.{arith}
+use lib.Dec.{eqb, leb}
+use lib.ListN.{length, drop, take, getD, length-append}
+use Rattle.std.specs.Options.{isSome, valueOr}
+use Rattle.std.specs.declared.option.Option.{Option}
+use Rattle.std.specs.declared.option.Option.the-variants.{Some, None}
+use Rattle.std.proofs.shelf.Lists.{take-at, getD-append-left}
+use Rattle.std.proofs.shelf.Tests.{le-leb, and-from}
+use Rattle.feed.specs.Codes.{coded, sides, sideCode, levels, levelNumber, auctions, auctionCode, eventCode, eventByte, resetByte}
+use Rattle.feed.specs.Content.{Content, quote, imbalance, event, size}
+use Rattle.feed.specs.Layout.{Number, Symbol, MessageHeader, Named, LaidQuote, LaidImbalance, LaidForm, LaidEvent, LaidMessage, Begins}
+use Rattle.feed.specs.Symbols.{wellFormed}
+use Rattle.feed.specs.Verdict.{message, when, inRange, named, goodQuote, goodImbalance, goodEvent, goodForm, formOf, quoteFields, imbalanceFields, eventFields, quoteIn, imbalanceIn, eventIn}
+use Rattle.feed.specs.Wire.{byte, be16, be32, part}
+use Rattle.feed.specs.declared.codes.Side.{Side}
+use Rattle.feed.specs.declared.codes.Side.the-variants as side
+use Rattle.feed.specs.declared.codes.Level.{Level}
+use Rattle.feed.specs.declared.codes.Level.the-variants as level
+use Rattle.feed.specs.declared.codes.Auction.{Auction}
+use Rattle.feed.specs.declared.codes.Auction.the-variants as auction
+use Rattle.feed.specs.declared.codes.EventCode.{EventCode}
+use Rattle.feed.specs.declared.codes.EventCode.the-variants as code
+use Rattle.feed.specs.declared.fields.QuoteFields.{QuoteFields}
+use Rattle.feed.specs.declared.fields.ImbalanceFields.{ImbalanceFields}
+use Rattle.feed.specs.declared.fields.EventFields.{EventFields}
+use Rattle.feed.specs.declared.fields.EventForm.{EventForm}
+use Rattle.feed.specs.declared.fields.EventForm.the-variants.{Numbered, Underlying, Reset}
+use Rattle.feed.proofs.Cases.{side-back, level-back, auction-back, event-back}
+use Rattle.feed.proofs.Symbols.{symbol-passes}
+use Rattle.feed.proofs.Verdicts.{Front, message-quote, message-imbalance, message-event}
+
+number-passes : (n : ℕ) → Number n → inRange n ≡ true
+number-passes n h = and-from _ _ (le-leb 1 n (h .low)) (le-leb n 4294967294 (h .high))
+
+named-passes : (number : ℕ) (symbol own : List ℕ) → Named number symbol own → named own ≡ true
+named-passes number symbol own h =
+    and-from _ _ (ap inRange (h .number-field) ∙ number-passes number (h .number-good)) (ap wellFormed (h .symbol-field) ∙ symbol-passes symbol (h .symbol-good))
+
+-- a field that holds a case's code
+module _ {E : Type 0} (code : E → ℕ) (cases : List E) (at : ℕ) (e : E) (back : coded code cases (code e) ≡ Some e) (field : at ≡ code e) where
+  read-code : coded code cases at ≡ Some e
+  read-code = ap (coded code cases) field ∙ back
+
+  code-passes : isSome (coded code cases at) ≡ true
+  code-passes = ap isSome read-code
+
+  code-value : (d : E) → valueOr (coded code cases at) d ≡ e
+  code-value d = ap (λ o. valueOr o d) read-code
+
+when-passes : (b : Bool) (c d : Content) → b ≡ true → c ≡ d → when b c ≡ Some d
+when-passes b c d e f = ap (λ b. when b c) e ∙ ap Some f
+
+abbrev quoteOf : (stamp number : ℕ) (symbol : List ℕ) (side : Side) (insert delete : Level) (contracts price : ℕ) → Content
+quoteOf stamp number symbol side insert delete contracts price = quote record { stamp = stamp; number = number; symbol = symbol; side = side; insert = insert; delete = delete; contracts = contracts; price = price }
+
+same-quote : (t t′ n n′ : ℕ) (s s′ : List ℕ) (d d′ : Side) (i i′ k k′ : Level) (c c′ p p′ : ℕ) → t ≡ t′ → n ≡ n′ → s ≡ s′ → d ≡ d′ → i ≡ i′ → k ≡ k′ → c ≡ c′ → p ≡ p′ → quoteOf t n s d i k c p ≡ quoteOf t′ n′ s′ d′ i′ k′ c′ p′
+same-quote t t′ n n′ s s′ d d′ i i′ k k′ c c′ p p′ e1 e2 e3 e4 e5 e6 e7 e8 = cc
+
+quote-passes : (subscription : ℕ) (own : List ℕ) (q : QuoteFields) → LaidQuote subscription own q → quoteIn own ≡ Some (quote q)
+unfolding goodQuote quoteFields
+quote-passes subscription own q h =
+    when-passes _ _ _ (and-from _ _ (and-from _ _ (and-from _ _ (named-passes (q .number) (q .symbol) own (h .named))
+    (code-passes sideCode sides _ _ (side-back (q .side)) (h .side-field)))
+    (code-passes levelNumber levels _ _ (level-back (q .insert)) (h .insert-field)))
+    (code-passes levelNumber levels _ _ (level-back (q .delete)) (h .delete-field)))
+    (same-quote _ (q .stamp) _ (q .number) _ (q .symbol) _ (q .side) _ (q .insert) _ (q .delete) _ (q .contracts) _ (q .price)
+    (h .header .stamp-field) (h .named .number-field) (h .named .symbol-field)
+    (code-value sideCode sides (byte own 41) _ (side-back (q .side)) (h .side-field) side.Offer)
+    (code-value levelNumber levels (byte own 42) _ (level-back (q .insert)) (h .insert-field) level.Fifth)
+    (code-value levelNumber levels (byte own 43) _ (level-back (q .delete)) (h .delete-field) level.Fifth)
+    (h .contracts-field) (h .price-field))
+
+abbrev imbalanceOf : (stamp number : ℕ) (symbol : List ℕ) (auction : Auction) (time contracts price total market : ℕ) → Content
+imbalanceOf stamp number symbol auction time contracts price total market = imbalance record { stamp = stamp; number = number; symbol = symbol; auction = auction; time = time; contracts = contracts; price = price; total = total; market = market }
+
+same-imbalance : (t t′ n n′ : ℕ) (s s′ : List ℕ) (a a′ : Auction) (h h′ c c′ p p′ o o′ m m′ : ℕ) → t ≡ t′ → n ≡ n′ → s ≡ s′ → a ≡ a′ → h ≡ h′ → c ≡ c′ → p ≡ p′ → o ≡ o′ → m ≡ m′ → imbalanceOf t n s a h c p o m ≡ imbalanceOf t′ n′ s′ a′ h′ c′ p′ o′ m′
+same-imbalance t t′ n n′ s s′ a a′ h h′ c c′ p p′ o o′ m m′ e1 e2 e3 e4 e5 e6 e7 e8 e9 = cc
+
+imbalance-passes : (subscription : ℕ) (own : List ℕ) (i : ImbalanceFields) → LaidImbalance subscription own i → imbalanceIn own ≡ Some (imbalance i)
+unfolding goodImbalance imbalanceFields
+imbalance-passes subscription own i h =
+    when-passes _ _ _ (and-from _ _ (and-from _ _ (named-passes (i .number) (i .symbol) own (h .named))
+    (code-passes auctionCode auctions _ _ (auction-back (i .auction)) (h .auction-field)))
+    (le-leb _ _ (rw (h .time-field) (h .time-good))))
+    (same-imbalance _ (i .stamp) _ (i .number) _ (i .symbol) _ (i .auction) _ (i .time) _ (i .contracts) _ (i .price) _ (i .total) _ (i .market)
+    (h .header .stamp-field) (h .named .number-field) (h .named .symbol-field)
+    (code-value auctionCode auctions (byte own 41) _ (auction-back (i .auction)) (h .auction-field) auction.Closing)
+    (h .time-field) (h .contracts-field) (h .price-field) (h .total-field) (h .market-field))
+
+-- the two codes of an event, and its form
+codes-read : (own : List ℕ) (e : EventCode) → byte own 42 ≡ eventByte e → byte own 43 ≡ resetByte e → eventCode (byte own 42) (byte own 43) ≡ Some e
+codes-read own e a b = ap (λ x. eventCode x (byte own 43)) a ∙ ap (eventCode (eventByte e)) b ∙ event-back e
+
+form-passes : (own : List ℕ) (f : EventForm) → LaidForm own f → (goodForm own (eventCode (byte own 42) (byte own 43)) ≡ true) × (formOf own (eventCode (byte own 42) (byte own 43)) ≡ f)
+form-passes own (Numbered number symbol c) h =
+    let e = codes-read own (code.Series c) (h .1) (h .2) in
+    let n = h .0 .number-field in
+    let s = h .0 .symbol-field in
+    (ap (goodForm own) e ∙ named-passes number symbol own (h .0), ap (formOf own) e ∙ ap (λ n. Numbered n (part own 32 8) c) n ∙ ap (λ s. Numbered number s c) s)
+form-passes own (Underlying c) h = let e = codes-read own (code.Underlying c) (h .0) (h .1) in (ap (goodForm own) e, ap (formOf own) e)
+form-passes own Reset h = let e = codes-read own code.Reset (h .0) (h .1) in (ap (goodForm own) e, ap (formOf own) e)
+
+abbrev eventOf : ℕ → EventForm → Content
+eventOf stamp form = event record { stamp = stamp; form = form }
+
+event-passes : (subscription : ℕ) (own : List ℕ) (e : EventFields) → LaidEvent subscription own e → eventIn own ≡ Some (event e)
+unfolding goodEvent eventFields
+event-passes subscription own e h =
+    let f = form-passes own (e .form) (h .codes) in
+    when-passes _ _ _ (f .0) (ap (λ t. eventOf t (formOf own (eventCode (byte own 42) (byte own 43)))) (h .header .stamp-field) ∙ ap (eventOf (e .stamp)) (f .1))
+
+-- a message with bytes after it
+front : {len type subscription stamp : ℕ} {own : List ℕ} (rest : List ℕ) → 3 < len → MessageHeader len type subscription stamp own → Front len type subscription (own ++ rest) own
+front {len} {own = own} rest big h =
+    let same : (i : ℕ) → i < 4 → byte (own ++ rest) i ≡ byte own i = λ i small. getD-append-left own rest 0 i (omega (arith, h .all)) in
+    let first = same 0 (omega arith) in
+    let second = same 1 (omega arith) in
+    record {
+      enough = omega (arith, length-append own rest, h .all);
+      length-field = omega (arith, h .length-field);
+      type-field = same 2 (omega arith) ∙ h .type-field;
+      subscription-field = same 3 (omega arith) ∙ h .subscription-field;
+      cut = sym (take-at own rest len (h .all));
+    }
+
+pub laid-read : (subscription : ℕ) (own rest : List ℕ) (c : Content) → LaidMessage subscription own c → message subscription (own ++ rest) ≡ Some c
+laid-read subscription own rest (quote q) h = message-quote subscription (own ++ rest) own (front rest (omega arith) (h .header)) ∙ quote-passes subscription own q h
+laid-read subscription own rest (imbalance i) h = message-imbalance subscription (own ++ rest) own (front rest (omega arith) (h .header)) ∙ imbalance-passes subscription own i h
+laid-read subscription own rest (event e) h = message-event subscription (own ++ rest) own (front rest (omega arith) (h .header)) ∙ event-passes subscription own e h

@@ -1,0 +1,25 @@
+use borrow.Author.Needs.{needs}
+use native.Mathlib.Omega.{arith}
+use Rattle.std.proofs.shelf.Ways.{tells}
+use Rattle.feed.specs.Packets.{headerVerdict}
+use Rattle.feed.proofs.packet.Header.read.Needs as need
+
+pub returns-then-not-is-good-length : need.returns-then-not-is-good-length
+unfolding headerVerdict
+returns-then-not-is-good-length c = search needs
+
+pub returns-then-bytes-subscription : need.returns-then-bytes-subscription
+unfolding headerVerdict
+returns-then-bytes-subscription c = search needs
+
+pub returns-in-Break-kind : need.returns-in-Break-kind
+unfolding headerVerdict
+returns-in-Break-kind c = search needs
+
+pub returns-then-not-allows : need.returns-then-not-allows
+unfolding headerVerdict
+returns-then-not-allows c = search needs
+
+pub returns : need.returns
+unfolding headerVerdict
+returns c = search needs

@@ -1,0 +1,186 @@
+// A packet: its header, and its messages one after the other.
+ghost use mathlib.Core.Path.{_≡_};
+ghost use Rattle.feed.specs.Packets.{packetTypes, packetCode, goodLength, goodNumber, goodBody, headerVerdict, packetVerdict};
+ghost use Rattle.feed.specs.Pending.{pending, Next};
+ghost use Rattle.feed.specs.Items.{items};
+ghost use Rattle.std.specs.Vec.{made};
+ghost use Prim.Native.Nat.{_-_};
+ghost use lib.ListN.{length, drop};
+ghost use Rattle.feed.specs.Codes.{coded};
+ghost use Rattle.feed.specs.Refusals.{answered};
+use crate::message::Message;
+use crate::numbers::LAST_NUMBER;
+use crate::numbers::in_range;
+use crate::numbers::read_u16;
+use crate::numbers::read_u32;
+use crate::read::read_message;
+use crate::refusal::Refusal;
+
+pub const HEADER_SIZE: usize = 8;
+pub const LONGEST_PACKET: usize = 8_192;
+
+#[derive(Clone, Copy)]
+pub enum PacketType {
+    // M: it carries messages, and the numbers of these packets go up by one.
+    Messages,
+    // B: it carries none, and names the last M packet sent.
+    Heartbeat,
+}
+
+impl PacketType {
+    pub(crate) fn from_code(code: u8) -> Option<PacketType>
+        ensures { λ r. ⌜ r ≡ coded packetCode packetTypes code ⌝ }
+    {
+        match code {
+            b'M' => Some(PacketType::Messages),
+            b'B' => Some(PacketType::Heartbeat),
+            _ => None,
+        }
+    }
+
+    pub fn code(self) -> u8
+        ensures { λ r. ⌜ r ≡ packetCode self ⌝ }
+    {
+        match self {
+            PacketType::Messages => b'M',
+            PacketType::Heartbeat => b'B',
+        }
+    }
+
+    // A heartbeat may name 0, before the first packet is sent.
+    fn allows(self, number: u32) -> bool
+        ensures { λ r. ⌜ r ≡ goodNumber self number ⌝ }
+    {
+        match self {
+            PacketType::Messages => in_range(number),
+            PacketType::Heartbeat => number <= LAST_NUMBER,
+        }
+    }
+
+    fn allows_length(self, length: usize) -> bool
+        ensures { λ r. ⌜ r ≡ goodBody self length ⌝ }
+    {
+        match self {
+            PacketType::Messages => length > HEADER_SIZE,
+            PacketType::Heartbeat => length == HEADER_SIZE,
+        }
+    }
+}
+
+#[derive(Clone, Copy)]
+pub struct Header {
+    pub kind: PacketType,
+    pub subscription: u8,
+    pub number: u32,
+}
+
+impl Header {
+    // The header of a packet on this subscription, or refusal 1, 2, 3 or 4, in this order.
+    pub fn read(bytes: &[u8], subscription: u8) -> Result<Header, Refusal>
+        ensures { λ r. ⌜ answered (λ h. h) r ≡ headerVerdict subscription (now (bytes .entry)) ⌝ }
+    {
+        if !is_good_length(bytes) {
+            return Err(Refusal::PacketLength);
+        }
+        if bytes[3] != subscription {
+            return Err(Refusal::OtherSubscription);
+        }
+        let kind = PacketType::from_code(bytes[2]).ok_or(Refusal::PacketType)?;
+        let number = read_u32(bytes, 4);
+        if !kind.allows(number) {
+            return Err(Refusal::NumberOutOfRange);
+        }
+        Ok(Header {
+            kind,
+            subscription,
+            number,
+        })
+    }
+}
+
+// 8 to 8,192 bytes, as the length field says.
+fn is_good_length(bytes: &[u8]) -> bool
+    ensures { λ r. ⌜ r ≡ goodLength (now (bytes .entry)) ⌝ }
+{
+    bytes.len() >= HEADER_SIZE
+        && bytes.len() <= LONGEST_PACKET
+        && read_u16(bytes, 0) as usize == bytes.len()
+}
+
+// A packet on the subscription that it was read for, without looking at its messages yet.
+#[derive(Clone, Copy)]
+pub struct Packet<'a> {
+    header: Header,
+    bytes: &'a [u8],
+}
+
+impl<'a> Packet<'a> {
+    // Refusals 1 to 4 as for the header, and then 5 at 8 for an M packet without a message or a B packet over 8 bytes.
+    pub fn read(bytes: &'a [u8], subscription: u8) -> Result<Packet<'a>, Refusal>
+        ensures verdict { λ r. ⌜ answered (λ p. p .header) r ≡ packetVerdict subscription (now (bytes .entry)) ⌝ }
+        ensures bytes { λ r. ⌜ made r (λ p. p .bytes .now ≡ now (bytes .entry)) ⌝ }
+    {
+        let header = Header::read(bytes, subscription)?;
+        if !header.kind.allows_length(bytes.len()) {
+            return Err(Refusal::BrokenMessage(HEADER_SIZE));
+        }
+        Ok(Packet { header, bytes })
+    }
+
+    pub fn header(self) -> Header
+        ensures { λ r. ⌜ r ≡ self .entry .header ⌝ }
+    {
+        self.header
+    }
+
+    // The messages with their offsets in the packet; a broken one is the last item, as its refusal.
+    pub fn messages(self) -> Messages<'a>
+        ensures packet { λ r. ⌜ now (r .packet) ≡ now (self .entry .bytes) ⌝ }
+        ensures all { λ r. ⌜ pending r ≡ items (self .entry .header .subscription) 8 (drop 8 (now (self .entry .bytes))) ⌝ }
+    {
+        let packet = self.bytes;
+        Messages {
+            packet,
+            at: HEADER_SIZE,
+            subscription: self.header.subscription,
+        }
+    }
+}
+
+// What is left of a packet's messages.
+#[derive(Clone, Copy)]
+pub struct Messages<'a> {
+    packet: &'a [u8],
+    at: usize,
+    subscription: u8,
+}
+
+pub impl<'a> Iterator for Messages<'a> as MessagesIterator {
+    type Item = Result<(usize, Message<'a>), Refusal>;
+
+    ghost can = { λ _. Unit {0} };
+
+    ghost steps = { λ s r t. Next s r t };
+
+    ghost ends = { λ _. Unit {0} };
+
+    ghost left = { λ s. length (s .packet .now) - s .at };
+
+    fn next(&mut self) -> Option<Result<(usize, Message<'a>), Refusal>> {
+        let packet = self.packet;
+        let at = self.at;
+        if at >= packet.len() {
+            return None;
+        }
+        match read_message(&packet[at..], self.subscription, at) {
+            Ok(message) => {
+                self.at = at + message.size();
+                Some(Ok((at, message)))
+            }
+            Err(refusal) => {
+                self.at = packet.len();
+                Some(Err(refusal))
+            }
+        }
+    }
+}
