@@ -34,7 +34,7 @@ use Rattle.feed.proofs.Cases.{side-back, level-back, auction-back, event-back}
 use Rattle.feed.proofs.Symbols.{symbol-passes}
 use Rattle.feed.proofs.Verdicts.{Front, message-quote, message-imbalance, message-event}
 
-number-passes : (n : ℕ) → Number n → inRange n ≡ true
+pub number-passes : (n : ℕ) → Number n → inRange n ≡ true
 number-passes n h = and-from _ _ (le-leb 1 n (h .low)) (le-leb n 4294967294 (h .high))
 
 named-passes : (number : ℕ) (symbol own : List ℕ) → Named number symbol own → named own ≡ true

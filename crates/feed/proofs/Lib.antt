@@ -5,3 +5,4 @@ pub mod Layouts
 pub mod Readings
 pub mod Judgements
 pub mod Steps
+pub mod Agreements

@@ -25,7 +25,7 @@ use Rattle.feed.specs.declared.codes.EventCode.the-variants.{Series, Underlyin
 use Rattle.feed.proofs.Cases.{coded-value, event-is}
 use Rattle.feed.proofs.Symbols.{symbol-from}
 
-number-from : (n : ℕ) → inRange n ≡ true → Number n
+pub number-from : (n : ℕ) → inRange n ≡ true → Number n
 number-from n e = let h = and-parts (leb 1 n) (leb n 4294967294) e in record { low = leb-true 1 n (h .0); high = leb-true n 4294967294 (h .1) }
 
 named-from : (own : List ℕ) → 40 ≤ length own → named own ≡ true → Named (be32 own 8) (part own 32 8) own

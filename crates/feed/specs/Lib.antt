@@ -9,3 +9,4 @@ pub mod Layout
 pub mod Items
 pub mod Packets
 pub mod Pending
+pub mod Agreement

@@ -1,6 +1,7 @@
 // A packet: its header, and its messages one after the other.
 ghost use mathlib.Core.Path.{_≡_};
 ghost use Rattle.feed.specs.Packets.{packetTypes, packetCode, goodLength, goodNumber, goodBody, headerVerdict, packetVerdict};
+ghost use Rattle.feed.specs.Agreement.{PacketsAgree, HeartbeatsAgree};
 ghost use Rattle.feed.specs.Pending.{pending, Next};
 ghost use Rattle.feed.specs.Items.{items};
 ghost use Rattle.std.specs.Vec.{made};
@@ -118,6 +119,8 @@ impl<'a> Packet<'a> {
     // Refusals 1 to 4 as for the header, and then 5 at 8 for an M packet without a message or a B packet over 8 bytes.
     pub fn read(bytes: &'a [u8], subscription: u8) -> Result<Packet<'a>, Refusal>
         ensures verdict { λ r. ⌜ answered (λ p. p .header) r ≡ packetVerdict subscription (now (bytes .entry)) ⌝ }
+        ensures packets { λ r. ⌜ PacketsAgree subscription (now (bytes .entry)) (answered (λ p. p .header) r) ⌝ }
+        ensures heartbeats { λ r. ⌜ HeartbeatsAgree subscription (now (bytes .entry)) (answered (λ p. p .header) r) ⌝ }
         ensures bytes { λ r. ⌜ made r (λ p. p .bytes .now ≡ now (bytes .entry)) ⌝ }
     {
         let header = Header::read(bytes, subscription)?;
