@@ -14,18 +14,18 @@ use Rattle.std.specs.declared.result.Result.the-variants.{Ok, Err}
 use Rattle.std.proofs.shelf.Lists.{drop-at}
 use Rattle.std.proofs.shelf.Tests.{cond-true, leb-true, ltb-true, eqb-true, le-leb, lt-ltb, eq-eqb, and-parts, and-from}
 use Rattle.feed.specs.Agreement.{ReadPacket, PacketsAgree, HeartbeatsAgree}
-use Rattle.feed.specs.Codes.{coded}
+use Rattle.codes.specs.Codes.{coded, packetCode, packetTypes}
 use Rattle.feed.specs.Content.{Content, size}
 use Rattle.feed.specs.Items.{Item, good, refused, itemThen, items, goods}
 use Rattle.feed.specs.Layout.{Number, LaidMessage, Begins, LaidMessages, none, more, PacketHeader, LaidPacket, LaidHeartbeat}
-use Rattle.feed.specs.Packets.{packetCode, packetTypes, goodLength, goodNumber, goodBody, headed, numbered, bodied, headerVerdict, packetVerdict}
-use Rattle.feed.specs.Refusals.{Returned, alone, placed}
+use Rattle.feed.specs.Packets.{goodLength, goodNumber, goodBody, headed, numbered, bodied, headerVerdict, packetVerdict}
+use Rattle.codes.specs.Refusals.{Returned, alone, placed}
 use Rattle.feed.specs.Verdict.{verdict, inRange}
 use Rattle.feed.specs.Wire.{byte, be16, be32}
 use Rattle.feed.specs.declared.packet.Header.{Header}
-use Rattle.feed.specs.declared.packet.PacketType.{PacketType}
-use Rattle.feed.specs.declared.packet.PacketType.the-variants.{Messages, Heartbeat}
-use Rattle.feed.proofs.Cases.{coded-is}
+use Rattle.codes.specs.declared.packet.PacketType.{PacketType}
+use Rattle.codes.specs.declared.packet.PacketType.the-variants.{Messages, Heartbeat}
+use Rattle.codes.proofs.Cases.{coded-is}
 use Rattle.feed.proofs.Judgements.{verdict-laid}
 use Rattle.feed.proofs.Layouts.{number-passes}
 use Rattle.feed.proofs.Readings.{number-from}

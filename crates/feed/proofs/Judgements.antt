@@ -15,11 +15,11 @@ use Rattle.std.specs.declared.result.Result.the-variants.{Ok, Err}
 use Rattle.feed.specs.Content.{Content, size}
 use Rattle.feed.specs.Layout.{Begins}
 use Rattle.feed.specs.Messages.{content, ownBytes}
-use Rattle.feed.specs.Refusals.{answered}
+use Rattle.codes.specs.Refusals.{answered}
 use Rattle.feed.specs.Verdict.{message, judged, verdict}
 use Rattle.feed.specs.declared.message.Message.{Message}
-use Rattle.feed.specs.declared.refusal.Refusal.{Refusal}
-use Rattle.feed.specs.declared.refusal.Refusal.the-variants.{BrokenMessage}
+use Rattle.codes.specs.declared.refusal.Refusal.{Refusal}
+use Rattle.codes.specs.declared.refusal.Refusal.the-variants.{BrokenMessage}
 use Rattle.feed.proofs.Layouts.{laid-read}
 use Rattle.feed.proofs.Readings.{read-laid}
 

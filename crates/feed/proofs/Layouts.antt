@@ -11,26 +11,26 @@ use Rattle.std.specs.declared.option.Option.{Option}
 use Rattle.std.specs.declared.option.Option.the-variants.{Some, None}
 use Rattle.std.proofs.shelf.Lists.{take-at, getD-append-left}
 use Rattle.std.proofs.shelf.Tests.{le-leb, and-from}
-use Rattle.feed.specs.Codes.{coded, sides, sideCode, levels, levelNumber, auctions, auctionCode, eventCode, eventByte, resetByte}
+use Rattle.codes.specs.Codes.{coded, sides, sideCode, levels, levelNumber, auctions, auctionCode, eventCode, eventByte, resetByte}
 use Rattle.feed.specs.Content.{Content, quote, imbalance, event, size}
 use Rattle.feed.specs.Layout.{Number, Symbol, MessageHeader, Named, LaidQuote, LaidImbalance, LaidForm, LaidEvent, LaidMessage, Begins}
 use Rattle.feed.specs.Symbols.{wellFormed}
 use Rattle.feed.specs.Verdict.{message, when, inRange, named, goodQuote, goodImbalance, goodEvent, goodForm, formOf, quoteFields, imbalanceFields, eventFields, quoteIn, imbalanceIn, eventIn}
 use Rattle.feed.specs.Wire.{byte, be16, be32, part}
-use Rattle.feed.specs.declared.codes.Side.{Side}
-use Rattle.feed.specs.declared.codes.Side.the-variants as side
-use Rattle.feed.specs.declared.codes.Level.{Level}
-use Rattle.feed.specs.declared.codes.Level.the-variants as level
-use Rattle.feed.specs.declared.codes.Auction.{Auction}
-use Rattle.feed.specs.declared.codes.Auction.the-variants as auction
-use Rattle.feed.specs.declared.codes.EventCode.{EventCode}
-use Rattle.feed.specs.declared.codes.EventCode.the-variants as code
+use Rattle.codes.specs.declared.quote.Side.{Side}
+use Rattle.codes.specs.declared.quote.Side.the-variants as side
+use Rattle.codes.specs.declared.quote.Level.{Level}
+use Rattle.codes.specs.declared.quote.Level.the-variants as level
+use Rattle.codes.specs.declared.auction.Auction.{Auction}
+use Rattle.codes.specs.declared.auction.Auction.the-variants as auction
+use Rattle.codes.specs.declared.event.EventCode.{EventCode}
+use Rattle.codes.specs.declared.event.EventCode.the-variants as code
 use Rattle.feed.specs.declared.fields.QuoteFields.{QuoteFields}
 use Rattle.feed.specs.declared.fields.ImbalanceFields.{ImbalanceFields}
 use Rattle.feed.specs.declared.fields.EventFields.{EventFields}
 use Rattle.feed.specs.declared.fields.EventForm.{EventForm}
 use Rattle.feed.specs.declared.fields.EventForm.the-variants.{Numbered, Underlying, Reset}
-use Rattle.feed.proofs.Cases.{side-back, level-back, auction-back, event-back}
+use Rattle.codes.proofs.Cases.{side-back, level-back, auction-back, event-back}
 use Rattle.feed.proofs.Symbols.{symbol-passes}
 use Rattle.feed.proofs.Verdicts.{Front, message-quote, message-imbalance, message-event}
 

@@ -1,4 +1,3 @@
-pub mod Cases
 pub mod Symbols
 pub mod Verdicts
 pub mod Layouts

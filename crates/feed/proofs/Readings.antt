@@ -11,18 +11,18 @@ use Rattle.std.specs.declared.option.Option.{Option}
 use Rattle.std.specs.declared.option.Option.the-variants.{Some, None}
 use Rattle.std.proofs.shelf.Lists.{length-take-le, length-drop, length-take, getD-take}
 use Rattle.std.proofs.shelf.Tests.{leb-true, eqb-true, and-parts}
-use Rattle.feed.specs.Codes.{coded, sides, sideCode, levels, levelNumber, auctions, auctionCode, eventCode, eventByte, resetByte}
+use Rattle.codes.specs.Codes.{coded, sides, sideCode, levels, levelNumber, auctions, auctionCode, eventCode, eventByte, resetByte}
 use Rattle.feed.specs.Content.{Content, quote, imbalance, event, size}
 use Rattle.feed.specs.Layout.{Number, Symbol, MessageHeader, Named, LaidQuote, LaidImbalance, LaidForm, LaidEvent, LaidMessage, Begins}
 use Rattle.feed.specs.Symbols.{wellFormed}
 use Rattle.feed.specs.Verdict.{message, when, inRange, starts, named, sideAt, levelAt, auctionAt, goodQuote, goodImbalance, goodEvent, goodForm, formOf, quoteFields, imbalanceFields, eventFields, quoteIn, imbalanceIn, eventIn}
 use Rattle.feed.specs.Wire.{byte, be16, be32, part}
-use Rattle.feed.specs.declared.codes.Side.the-variants as side
-use Rattle.feed.specs.declared.codes.Level.the-variants as level
-use Rattle.feed.specs.declared.codes.Auction.the-variants as auction
-use Rattle.feed.specs.declared.codes.EventCode.{EventCode}
-use Rattle.feed.specs.declared.codes.EventCode.the-variants.{Series, Underlying, Reset}
-use Rattle.feed.proofs.Cases.{coded-value, event-is}
+use Rattle.codes.specs.declared.quote.Side.the-variants as side
+use Rattle.codes.specs.declared.quote.Level.the-variants as level
+use Rattle.codes.specs.declared.auction.Auction.the-variants as auction
+use Rattle.codes.specs.declared.event.EventCode.{EventCode}
+use Rattle.codes.specs.declared.event.EventCode.the-variants.{Series, Underlying, Reset}
+use Rattle.codes.proofs.Cases.{coded-value, event-is}
 use Rattle.feed.proofs.Symbols.{symbol-from}
 
 pub number-from : (n : ℕ) → inRange n ≡ true → Number n

@@ -11,7 +11,7 @@ use Rattle.std.specs.declared.result.Result.the-variants.{Ok, Err}
 use Rattle.feed.specs.Content.{Content, quote, imbalance, event, size}
 use Rattle.feed.specs.Items.{Item, good, refused, itemThen, atMost, items}
 use Rattle.feed.specs.Layout.{LaidMessage, Begins}
-use Rattle.feed.specs.Refusals.{Returned, placed}
+use Rattle.codes.specs.Refusals.{Returned, placed}
 use Rattle.feed.specs.Verdict.{verdict}
 use Rattle.feed.proofs.Judgements.{verdict-laid}
 

@@ -10,9 +10,9 @@ use Rattle.feed.specs.Content.{Content}
 use Rattle.feed.specs.Items.{items, goods}
 use Rattle.feed.specs.Layout.{LaidPacket, LaidHeartbeat}
 use Rattle.feed.specs.Packets.{headed}
-use Rattle.feed.specs.Refusals.{Returned}
+use Rattle.codes.specs.Refusals.{Returned}
 use Rattle.feed.specs.declared.packet.Header.{Header}
-use Rattle.feed.specs.declared.packet.PacketType.the-variants.{Messages, Heartbeat}
+use Rattle.codes.specs.declared.packet.PacketType.the-variants.{Messages, Heartbeat}
 
 -- the answer is an M packet with this number, and each of its messages is read, at its offset
 abbrev pub ReadPacket : ℕ → List ℕ → Result Header Returned → ℕ → List Content → Type 0

@@ -5,7 +5,7 @@ use lib.ListN.{length, drop}
 use Rattle.std.specs.declared.result.Result.{Result}
 use Rattle.std.specs.declared.result.Result.the-variants.{Ok, Err}
 use Rattle.feed.specs.Content.{Content, size}
-use Rattle.feed.specs.Refusals.{Returned}
+use Rattle.codes.specs.Refusals.{Returned}
 use Rattle.feed.specs.Verdict.{verdict}
 
 pub data Item : Type 0 where

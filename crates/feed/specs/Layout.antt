@@ -4,7 +4,7 @@ use mathlib.Core.Path.{_≡_}
 use mathlib.Core.List.{List, [], _∷_, _++_}
 use Prim.Native.Nat.{ℕ, _≤_, _<_}
 use lib.ListN.{length, drop, getD, replicate}
-use Rattle.feed.specs.Codes.{sideCode, levelNumber, auctionCode, seriesCode, underlyingCode}
+use Rattle.codes.specs.Codes.{sideCode, levelNumber, auctionCode, seriesCode, underlyingCode}
 use Rattle.feed.specs.Content.{Content, quote, imbalance, event}
 use Rattle.feed.specs.Wire.{byte, be16, be32, part}
 use Rattle.feed.specs.declared.fields.QuoteFields.{QuoteFields}

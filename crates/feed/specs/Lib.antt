@@ -1,5 +1,3 @@
-pub mod Refusals
-pub mod Codes
 pub mod Wire
 pub mod Symbols
 pub mod Content

@@ -8,20 +8,13 @@ use Rattle.std.specs.declared.option.Option.{Option}
 use Rattle.std.specs.declared.option.Option.the-variants.{Some, None}
 use Rattle.std.specs.declared.result.Result.{Result}
 use Rattle.std.specs.declared.result.Result.the-variants.{Ok, Err}
-use Rattle.feed.specs.Codes.{coded}
-use Rattle.feed.specs.Refusals.{Returned, alone, placed}
+use Rattle.codes.specs.Codes.{coded, packetTypes, packetCode}
+use Rattle.codes.specs.Refusals.{Returned, alone, placed}
 use Rattle.feed.specs.Verdict.{inRange}
 use Rattle.feed.specs.Wire.{byte, be16, be32}
-use Rattle.feed.specs.declared.packet.PacketType.{PacketType}
-use Rattle.feed.specs.declared.packet.PacketType.the-variants.{Messages, Heartbeat}
+use Rattle.codes.specs.declared.packet.PacketType.{PacketType}
+use Rattle.codes.specs.declared.packet.PacketType.the-variants.{Messages, Heartbeat}
 use Rattle.feed.specs.declared.packet.Header.{Header}
-
-abbrev pub packetCode : PacketType → ℕ
-packetCode Messages = 77
-packetCode Heartbeat = 66
-
-abbrev pub packetTypes : List PacketType
-packetTypes = Messages ∷ Heartbeat ∷ []
 
 abbrev pub goodLength : List ℕ → Bool
 goodLength bytes = leb 8 (length bytes) && leb (length bytes) 8192 && eqb (be16 bytes 0) (length bytes)

@@ -10,11 +10,11 @@ use Rattle.std.specs.declared.result.Result.the-variants.{Ok, Err}
 use Rattle.feed.specs.Content.{size}
 use Rattle.feed.specs.Items.{Item, good, refused, items}
 use Rattle.feed.specs.Messages.{content, ownBytes}
-use Rattle.feed.specs.Refusals.{returned}
+use Rattle.codes.specs.Refusals.{returned}
 use Rattle.feed.specs.Wire.{part}
 use Rattle.feed.specs.declared.message.Message.{Message}
 use Rattle.feed.specs.declared.packet.Messages.{Messages}
-use Rattle.feed.specs.declared.refusal.Refusal.{Refusal}
+use Rattle.codes.specs.declared.refusal.Refusal.{Refusal}
 
 unfoldable pub pending : Messages → List Item
 pending m = items (m .subscription) (m .at) (drop (m .at) (m .packet .now))

@@ -9,19 +9,19 @@ use Rattle.std.specs.declared.option.Option.the-variants.{Some, None}
 use Rattle.std.specs.declared.result.Result.{Result}
 use Rattle.std.specs.declared.result.Result.the-variants.{Ok, Err}
 use Rattle.std.specs.Options.{isSome, valueOr}
-use Rattle.feed.specs.Codes.{coded, sides, sideCode, levels, levelNumber, auctions, auctionCode, eventCode}
+use Rattle.codes.specs.Codes.{coded, sides, sideCode, levels, levelNumber, auctions, auctionCode, eventCode}
 use Rattle.feed.specs.Content.{Content, quote, imbalance, event}
-use Rattle.feed.specs.Refusals.{Returned, placed}
+use Rattle.codes.specs.Refusals.{Returned, placed}
 use Rattle.feed.specs.Symbols.{wellFormed}
 use Rattle.feed.specs.Wire.{byte, be16, be32, part}
-use Rattle.feed.specs.declared.codes.Side.{Side}
-use Rattle.feed.specs.declared.codes.Side.the-variants as side
-use Rattle.feed.specs.declared.codes.Level.{Level}
-use Rattle.feed.specs.declared.codes.Level.the-variants as level
-use Rattle.feed.specs.declared.codes.Auction.{Auction}
-use Rattle.feed.specs.declared.codes.Auction.the-variants as auction
-use Rattle.feed.specs.declared.codes.EventCode.{EventCode}
-use Rattle.feed.specs.declared.codes.EventCode.the-variants.{Series, Underlying, Reset}
+use Rattle.codes.specs.declared.quote.Side.{Side}
+use Rattle.codes.specs.declared.quote.Side.the-variants as side
+use Rattle.codes.specs.declared.quote.Level.{Level}
+use Rattle.codes.specs.declared.quote.Level.the-variants as level
+use Rattle.codes.specs.declared.auction.Auction.{Auction}
+use Rattle.codes.specs.declared.auction.Auction.the-variants as auction
+use Rattle.codes.specs.declared.event.EventCode.{EventCode}
+use Rattle.codes.specs.declared.event.EventCode.the-variants.{Series, Underlying, Reset}
 use Rattle.feed.specs.declared.fields.QuoteFields.{QuoteFields}
 use Rattle.feed.specs.declared.fields.ImbalanceFields.{ImbalanceFields}
 use Rattle.feed.specs.declared.fields.EventFields.{EventFields}

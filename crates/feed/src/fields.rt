@@ -1,9 +1,9 @@
 // What each message says, field by field: what is read from a message, and what one is written from.
-use crate::codes::Auction;
-use crate::codes::Level;
-use crate::codes::SeriesEvent;
-use crate::codes::Side;
-use crate::codes::UnderlyingEvent;
+use codes::auction::Auction;
+use codes::quote::Level;
+use codes::event::SeriesEvent;
+use codes::quote::Side;
+use codes::event::UnderlyingEvent;
 use crate::symbol::Symbol;
 
 // One price level of one side changes: the delete level goes, then this one comes in as the insert level.

@@ -1,9 +1,7 @@
 // Packets and messages of the feed, read from bytes without copying them.
-pub mod codes;
 pub mod fields;
 pub mod message;
 pub mod numbers;
 pub mod packet;
 pub mod read;
-pub mod refusal;
 pub mod symbol;

@@ -1,72 +1,24 @@
 // A packet: its header, and its messages one after the other.
 ghost use mathlib.Core.Path.{_≡_};
-ghost use Rattle.feed.specs.Packets.{packetTypes, packetCode, goodLength, goodNumber, goodBody, headerVerdict, packetVerdict};
-ghost use Rattle.feed.specs.Agreement.{PacketsAgree, HeartbeatsAgree};
-ghost use Rattle.feed.specs.Pending.{pending, Next};
-ghost use Rattle.feed.specs.Items.{items};
-ghost use Rattle.std.specs.Vec.{made};
 ghost use Prim.Native.Nat.{_-_};
 ghost use lib.ListN.{length, drop};
-ghost use Rattle.feed.specs.Codes.{coded};
-ghost use Rattle.feed.specs.Refusals.{answered};
+ghost use Rattle.std.specs.Vec.{made};
+ghost use Rattle.codes.specs.Refusals.{answered};
+ghost use Rattle.feed.specs.Agreement.{PacketsAgree, HeartbeatsAgree};
+ghost use Rattle.feed.specs.Items.{items};
+ghost use Rattle.feed.specs.Packets.{goodLength, goodNumber, goodBody, headerVerdict, packetVerdict};
+ghost use Rattle.feed.specs.Pending.{pending, Next};
 use crate::message::Message;
 use crate::numbers::LAST_NUMBER;
 use crate::numbers::in_range;
 use crate::numbers::read_u16;
 use crate::numbers::read_u32;
 use crate::read::read_message;
-use crate::refusal::Refusal;
+use codes::packet::PacketType;
+use codes::refusal::Refusal;
 
 pub const HEADER_SIZE: usize = 8;
 pub const LONGEST_PACKET: usize = 8_192;
-
-#[derive(Clone, Copy)]
-pub enum PacketType {
-    // M: it carries messages, and the numbers of these packets go up by one.
-    Messages,
-    // B: it carries none, and names the last M packet sent.
-    Heartbeat,
-}
-
-impl PacketType {
-    pub(crate) fn from_code(code: u8) -> Option<PacketType>
-        ensures { λ r. ⌜ r ≡ coded packetCode packetTypes code ⌝ }
-    {
-        match code {
-            b'M' => Some(PacketType::Messages),
-            b'B' => Some(PacketType::Heartbeat),
-            _ => None,
-        }
-    }
-
-    pub fn code(self) -> u8
-        ensures { λ r. ⌜ r ≡ packetCode self ⌝ }
-    {
-        match self {
-            PacketType::Messages => b'M',
-            PacketType::Heartbeat => b'B',
-        }
-    }
-
-    // A heartbeat may name 0, before the first packet is sent.
-    fn allows(self, number: u32) -> bool
-        ensures { λ r. ⌜ r ≡ goodNumber self number ⌝ }
-    {
-        match self {
-            PacketType::Messages => in_range(number),
-            PacketType::Heartbeat => number <= LAST_NUMBER,
-        }
-    }
-
-    fn allows_length(self, length: usize) -> bool
-        ensures { λ r. ⌜ r ≡ goodBody self length ⌝ }
-    {
-        match self {
-            PacketType::Messages => length > HEADER_SIZE,
-            PacketType::Heartbeat => length == HEADER_SIZE,
-        }
-    }
-}
 
 #[derive(Clone, Copy)]
 pub struct Header {
@@ -88,7 +40,7 @@ impl Header {
         }
         let kind = PacketType::from_code(bytes[2]).ok_or(Refusal::PacketType)?;
         let number = read_u32(bytes, 4);
-        if !kind.allows(number) {
+        if !is_good_number(kind, number) {
             return Err(Refusal::NumberOutOfRange);
         }
         Ok(Header {
@@ -96,6 +48,26 @@ impl Header {
             subscription,
             number,
         })
+    }
+}
+
+// A heartbeat may name 0, before the first packet is sent.
+fn is_good_number(kind: PacketType, number: u32) -> bool
+    ensures { λ r. ⌜ r ≡ goodNumber kind number ⌝ }
+{
+    match kind {
+        PacketType::Messages => in_range(number),
+        PacketType::Heartbeat => number <= LAST_NUMBER,
+    }
+}
+
+// An M packet has a message, a heartbeat none.
+fn is_good_body(kind: PacketType, length: usize) -> bool
+    ensures { λ r. ⌜ r ≡ goodBody kind length ⌝ }
+{
+    match kind {
+        PacketType::Messages => length > HEADER_SIZE,
+        PacketType::Heartbeat => length == HEADER_SIZE,
     }
 }
 
@@ -124,7 +96,7 @@ impl<'a> Packet<'a> {
         ensures bytes { λ r. ⌜ made r (λ p. p .bytes .now ≡ now (bytes .entry)) ⌝ }
     {
         let header = Header::read(bytes, subscription)?;
-        if !header.kind.allows_length(bytes.len()) {
+        if !is_good_body(header.kind, bytes.len()) {
             return Err(Refusal::BrokenMessage(HEADER_SIZE));
         }
         Ok(Packet { header, bytes })

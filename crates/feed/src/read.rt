@@ -10,12 +10,12 @@ ghost use Rattle.std.specs.declared.result.Result.the-variants.{Ok};
 ghost use Rattle.feed.specs.Content.{Content, size};
 ghost use Rattle.feed.specs.Layout.{Begins};
 ghost use Rattle.feed.specs.Messages.{content, ownBytes};
-ghost use Rattle.feed.specs.Refusals.{answered};
+ghost use Rattle.codes.specs.Refusals.{answered};
 ghost use Rattle.feed.specs.Verdict.{named, goodQuote, goodImbalance, goodEvent, quoteIn, imbalanceIn, eventIn, message, verdict};
-use crate::codes::Auction;
-use crate::codes::EventCode;
-use crate::codes::Level;
-use crate::codes::Side;
+use codes::auction::Auction;
+use codes::event::EventCode;
+use codes::quote::Level;
+use codes::quote::Side;
 use crate::message::Event;
 use crate::message::Imbalance;
 use crate::message::Message;
@@ -23,7 +23,7 @@ use crate::message::Quote;
 use crate::numbers::in_range;
 use crate::numbers::read_u16;
 use crate::numbers::read_u32;
-use crate::refusal::Refusal;
+use codes::refusal::Refusal;
 use crate::symbol::is_well_formed;
 
 // Whether the number is in its range and the symbol well formed.

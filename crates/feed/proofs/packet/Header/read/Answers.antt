@@ -1,6 +1,4 @@
 use borrow.Author.Needs.{needs}
-use native.Mathlib.Omega.{arith}
-use Rattle.std.proofs.shelf.Ways.{tells}
 use Rattle.feed.specs.Packets.{headerVerdict}
 use Rattle.feed.proofs.packet.Header.read.Needs as need
 
@@ -16,9 +14,9 @@ pub returns-in-Break-kind : need.returns-in-Break-kind
 unfolding headerVerdict
 returns-in-Break-kind c = search needs
 
-pub returns-then-not-allows : need.returns-then-not-allows
+pub returns-then-not-is-good-number : need.returns-then-not-is-good-number
 unfolding headerVerdict
-returns-then-not-allows c = search needs
+returns-then-not-is-good-number c = search needs
 
 pub returns : need.returns
 unfolding headerVerdict

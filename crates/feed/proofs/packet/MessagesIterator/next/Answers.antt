@@ -7,7 +7,7 @@ use Rattle.std.proofs.shelf.Lists.{take-rest}
 use Rattle.feed.specs.Items.{refused}
 use Rattle.feed.specs.Messages.{content}
 use Rattle.feed.specs.Pending.{pending}
-use Rattle.feed.specs.Refusals.{returned}
+use Rattle.codes.specs.Refusals.{returned}
 use Rattle.feed.proofs.Steps.{next-good, next-refused, next-none}
 use Rattle.feed.proofs.packet.MessagesIterator.next.Needs as need
 

@@ -10,12 +10,12 @@ returns-in-Break-header c =
     let v = verdict-refused (c .args .subscription) (c .args .bytes .now) _ (c .in-Break-header .ensures tt) in
     rw (p .1, p .2) record { verdict = v; packets = packets-at _ _ _ v; heartbeats = heartbeats-at _ _ _ v; bytes = tt }
 
-pub returns-then-not-allows-length : need.returns-then-not-allows-length
-returns-then-not-allows-length c =
-    let v = verdict-body (c .args .subscription) (c .args .bytes .now) (c .in-Continue-header .header) false (c .in-Continue-header .ensures tt) (c .if-not-allows-length .ensures tt) in
+pub returns-then-not-is-good-body : need.returns-then-not-is-good-body
+returns-then-not-is-good-body c =
+    let v = verdict-body (c .args .subscription) (c .args .bytes .now) (c .in-Continue-header .header) false (c .in-Continue-header .ensures tt) (c .if-not-is-good-body .ensures tt) in
     record { verdict = v; packets = packets-at _ _ _ v; heartbeats = heartbeats-at _ _ _ v; bytes = tt }
 
 pub returns : need.returns
 returns c =
-    let v = verdict-body (c .args .subscription) (c .args .bytes .now) (c .in-Continue-header .header) true (c .in-Continue-header .ensures tt) (c .if-not-allows-length .ensures tt) in
+    let v = verdict-body (c .args .subscription) (c .args .bytes .now) (c .in-Continue-header .header) true (c .in-Continue-header .ensures tt) (c .if-not-is-good-body .ensures tt) in
     record { verdict = v; packets = packets-at _ _ _ v; heartbeats = heartbeats-at _ _ _ v; bytes = refl }

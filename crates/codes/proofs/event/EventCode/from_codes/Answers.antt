@@ -1,9 +1,9 @@
 use mathlib.Core.Path.{_≡_, sym, ap, _∙_}
 use native.Mathlib.Omega.{arith}
 use Rattle.std.proofs.shelf.Ways.{tells}
-use Rattle.feed.specs.Codes.{eventCode}
-use Rattle.feed.proofs.Cases.{event-series, event-underlying, event-none, event-other}
-use Rattle.feed.proofs.codes.EventCode.from_codes.Needs as need
+use Rattle.codes.specs.Codes.{eventCode}
+use Rattle.codes.proofs.Cases.{event-series, event-underlying, event-none, event-other}
+use Rattle.codes.proofs.event.EventCode.from_codes.Needs as need
 
 pub returns-then-event-eq73 : need.returns-then-event-eq73
 returns-then-event-eq73 c = let e = event-other (c .args .event) (c .args .reset) (c .if-reset-ne67 .taken) in grind (arith, tells)

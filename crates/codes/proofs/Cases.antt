@@ -9,19 +9,19 @@ use Rattle.std.specs.declared.option.Option.{Option}
 use Rattle.std.specs.declared.option.Option.the-variants.{Some, None}
 use Rattle.std.specs.Options.{isSome, valueOr}
 use Rattle.std.proofs.shelf.Tests.{cond-true, cond-false, eqb-true, ne-eqb, and-left, and-parts}
-use Rattle.feed.specs.Codes.{first, coded, sides, sideCode, levels, levelNumber, auctions, auctionCode, seriesEvents, seriesCode, underlyingEvents, underlyingCode, events, eventCode, eventByte, resetByte}
-use Rattle.feed.specs.declared.codes.Side.{Side}
-use Rattle.feed.specs.declared.codes.Side.the-variants as side
-use Rattle.feed.specs.declared.codes.Level.{Level}
-use Rattle.feed.specs.declared.codes.Level.the-variants as level
-use Rattle.feed.specs.declared.codes.Auction.{Auction}
-use Rattle.feed.specs.declared.codes.Auction.the-variants as auction
-use Rattle.feed.specs.declared.codes.SeriesEvent.{SeriesEvent}
-use Rattle.feed.specs.declared.codes.SeriesEvent.the-variants as series
-use Rattle.feed.specs.declared.codes.UnderlyingEvent.{UnderlyingEvent}
-use Rattle.feed.specs.declared.codes.UnderlyingEvent.the-variants as underlying
-use Rattle.feed.specs.declared.codes.EventCode.{EventCode}
-use Rattle.feed.specs.declared.codes.EventCode.the-variants.{Series, Underlying, Reset}
+use Rattle.codes.specs.Codes.{first, coded, sides, sideCode, levels, levelNumber, auctions, auctionCode, seriesEvents, seriesCode, underlyingEvents, underlyingCode, events, eventCode, eventByte, resetByte}
+use Rattle.codes.specs.declared.quote.Side.{Side}
+use Rattle.codes.specs.declared.quote.Side.the-variants as side
+use Rattle.codes.specs.declared.quote.Level.{Level}
+use Rattle.codes.specs.declared.quote.Level.the-variants as level
+use Rattle.codes.specs.declared.auction.Auction.{Auction}
+use Rattle.codes.specs.declared.auction.Auction.the-variants as auction
+use Rattle.codes.specs.declared.event.SeriesEvent.{SeriesEvent}
+use Rattle.codes.specs.declared.event.SeriesEvent.the-variants as series
+use Rattle.codes.specs.declared.event.UnderlyingEvent.{UnderlyingEvent}
+use Rattle.codes.specs.declared.event.UnderlyingEvent.the-variants as underlying
+use Rattle.codes.specs.declared.event.EventCode.{EventCode}
+use Rattle.codes.specs.declared.event.EventCode.the-variants.{Series, Underlying, Reset}
 
 -- what `first` finds passes the test
 pub first-passes : {E : Type 0} (test : E → Bool) (es : List E) (e : E) → first test es ≡ Some e → test e ≡ true

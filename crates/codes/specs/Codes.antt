@@ -5,18 +5,20 @@ use Prim.Native.Nat.{ℕ}
 use lib.Dec.{eqb}
 use Rattle.std.specs.declared.option.Option.{Option}
 use Rattle.std.specs.declared.option.Option.the-variants.{Some, None}
-use Rattle.feed.specs.declared.codes.Side.{Side}
-use Rattle.feed.specs.declared.codes.Side.the-variants as side
-use Rattle.feed.specs.declared.codes.Level.{Level}
-use Rattle.feed.specs.declared.codes.Level.the-variants as level
-use Rattle.feed.specs.declared.codes.Auction.{Auction}
-use Rattle.feed.specs.declared.codes.Auction.the-variants as auction
-use Rattle.feed.specs.declared.codes.SeriesEvent.{SeriesEvent}
-use Rattle.feed.specs.declared.codes.SeriesEvent.the-variants as series
-use Rattle.feed.specs.declared.codes.UnderlyingEvent.{UnderlyingEvent}
-use Rattle.feed.specs.declared.codes.UnderlyingEvent.the-variants as underlying
-use Rattle.feed.specs.declared.codes.EventCode.{EventCode}
-use Rattle.feed.specs.declared.codes.EventCode.the-variants.{Series, Underlying, Reset}
+use Rattle.codes.specs.declared.packet.PacketType.{PacketType}
+use Rattle.codes.specs.declared.packet.PacketType.the-variants as packet
+use Rattle.codes.specs.declared.quote.Side.{Side}
+use Rattle.codes.specs.declared.quote.Side.the-variants as side
+use Rattle.codes.specs.declared.quote.Level.{Level}
+use Rattle.codes.specs.declared.quote.Level.the-variants as level
+use Rattle.codes.specs.declared.auction.Auction.{Auction}
+use Rattle.codes.specs.declared.auction.Auction.the-variants as auction
+use Rattle.codes.specs.declared.event.SeriesEvent.{SeriesEvent}
+use Rattle.codes.specs.declared.event.SeriesEvent.the-variants as series
+use Rattle.codes.specs.declared.event.UnderlyingEvent.{UnderlyingEvent}
+use Rattle.codes.specs.declared.event.UnderlyingEvent.the-variants as underlying
+use Rattle.codes.specs.declared.event.EventCode.{EventCode}
+use Rattle.codes.specs.declared.event.EventCode.the-variants.{Series, Underlying, Reset}
 
 -- the first element that passes a test
 abbrev pub first : {E : Type 0} → (E → Bool) → List E → Option E
@@ -94,3 +96,10 @@ events = map Series seriesEvents ++ (map Underlying underlyingEvents ++ (Reset �
 -- the event whose two codes the bytes are
 unfoldable pub eventCode : ℕ → ℕ → Option EventCode
 eventCode event reset = first (λ e. eqb reset (resetByte e) && eqb event (eventByte e)) events
+
+abbrev pub packetCode : PacketType → ℕ
+packetCode packet.Messages = 77
+packetCode packet.Heartbeat = 66
+
+abbrev pub packetTypes : List PacketType
+packetTypes = packet.Messages ∷ packet.Heartbeat ∷ []

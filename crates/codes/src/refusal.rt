@@ -1,6 +1,6 @@
 // Why a call was refused. One enum serves the whole project, a case for each returned number.
 ghost use mathlib.Core.Path.{_≡_};
-ghost use Rattle.feed.specs.Refusals.{returned, numberOf, placeOf};
+ghost use Rattle.codes.specs.Refusals.{returned, numberOf, placeOf};
 
 #[derive(Clone, Copy)]
 pub enum Refusal {

@@ -4,8 +4,8 @@ use Rattle.std.specs.declared.option.Option.{Option}
 use Rattle.std.specs.declared.option.Option.the-variants.{Some, None}
 use Rattle.std.specs.declared.result.Result.{Result}
 use Rattle.std.specs.declared.result.Result.the-variants.{Ok, Err}
-use Rattle.feed.specs.declared.refusal.Refusal.{Refusal}
-use Rattle.feed.specs.declared.refusal.Refusal.the-variants.{PacketLength, OtherSubscription, PacketType, NumberOutOfRange, BrokenMessage, MisplacedReset, ForeignMessage, NoReset, BufferTooShort, BadWatchList, NotWatched, WindowArea, BrokenFile, ServerMessage, PacketRange}
+use Rattle.codes.specs.declared.refusal.Refusal.{Refusal}
+use Rattle.codes.specs.declared.refusal.Refusal.the-variants.{PacketLength, OtherSubscription, PacketType, NumberOutOfRange, BrokenMessage, MisplacedReset, ForeignMessage, NoReset, BufferTooShort, BadWatchList, NotWatched, WindowArea, BrokenFile, ServerMessage, PacketRange}
 
 pub data Returned : Type 0 where
   alone : (number : ℕ) → Returned

@@ -1,106 +1,6 @@
-// The codes of the feed's fields, as enums.
+// The codes of an event: its event code and its reset code.
 ghost use mathlib.Core.Path.{_≡_};
-ghost use Rattle.feed.specs.Codes.{coded, sides, sideCode, levels, levelNumber, auctions, auctionCode, seriesEvents, seriesCode, underlyingEvents, underlyingCode, eventCode, eventByte, resetByte};
-
-#[derive(Clone, Copy)]
-pub enum Side {
-    Bid,
-    Offer,
-}
-
-impl Side {
-    // The side that a code stands for: `B` or `S`.
-    pub(crate) fn from_code(code: u8) -> Option<Side>
-        ensures { λ r. ⌜ r ≡ coded sideCode sides code ⌝ }
-    {
-        match code {
-            b'B' => Some(Side::Bid),
-            b'S' => Some(Side::Offer),
-            _ => None,
-        }
-    }
-
-    pub fn code(self) -> u8
-        ensures { λ r. ⌜ r ≡ sideCode self ⌝ }
-    {
-        match self {
-            Side::Bid => b'B',
-            Side::Offer => b'S',
-        }
-    }
-}
-
-// A price level, the best one first.
-#[derive(Clone, Copy)]
-pub enum Level {
-    First,
-    Second,
-    Third,
-    Fourth,
-    Fifth,
-}
-
-impl Level {
-    // The level of a number from 1 to 5.
-    pub(crate) fn from_number(number: u8) -> Option<Level>
-        ensures { λ r. ⌜ r ≡ coded levelNumber levels number ⌝ }
-    {
-        match number {
-            1 => Some(Level::First),
-            2 => Some(Level::Second),
-            3 => Some(Level::Third),
-            4 => Some(Level::Fourth),
-            5 => Some(Level::Fifth),
-            _ => None,
-        }
-    }
-
-    pub fn number(self) -> u8
-        ensures { λ r. ⌜ r ≡ levelNumber self ⌝ }
-    {
-        match self {
-            Level::First => 1,
-            Level::Second => 2,
-            Level::Third => 3,
-            Level::Fourth => 4,
-            Level::Fifth => 5,
-        }
-    }
-}
-
-// The auction that an imbalance is of.
-#[derive(Clone, Copy)]
-pub enum Auction {
-    Open,
-    Market,
-    Halt,
-    Closing,
-}
-
-impl Auction {
-    pub(crate) fn from_code(code: u8) -> Option<Auction>
-        ensures { λ r. ⌜ r ≡ coded auctionCode auctions code ⌝ }
-    {
-        match code {
-            b'O' => Some(Auction::Open),
-            b'M' => Some(Auction::Market),
-            b'H' => Some(Auction::Halt),
-            b'C' => Some(Auction::Closing),
-            _ => None,
-        }
-    }
-
-    pub fn code(self) -> u8
-        ensures { λ r. ⌜ r ≡ auctionCode self ⌝ }
-    {
-        match self {
-            Auction::Open => b'O',
-            Auction::Market => b'M',
-            Auction::Halt => b'H',
-            Auction::Closing => b'C',
-        }
-    }
-}
+ghost use Rattle.codes.specs.Codes.{coded, seriesEvents, seriesCode, underlyingEvents, underlyingCode, eventCode, eventByte, resetByte};
 
 // An event of one series, which carries a number and a symbol.
 #[derive(Clone, Copy)]
@@ -118,7 +18,7 @@ pub enum SeriesEvent {
 }
 
 impl SeriesEvent {
-    pub(crate) fn from_code(code: u8) -> Option<SeriesEvent>
+    pub fn from_code(code: u8) -> Option<SeriesEvent>
         ensures { λ r. ⌜ r ≡ coded seriesCode seriesEvents code ⌝ }
     {
         match code {
@@ -164,7 +64,7 @@ pub enum UnderlyingEvent {
 }
 
 impl UnderlyingEvent {
-    pub(crate) fn from_code(code: u8) -> Option<UnderlyingEvent>
+    pub fn from_code(code: u8) -> Option<UnderlyingEvent>
         ensures { λ r. ⌜ r ≡ coded underlyingCode underlyingEvents code ⌝ }
     {
         match code {
@@ -198,7 +98,7 @@ pub enum EventCode {
 
 impl EventCode {
     // The event of an event code and a reset code: `I` with `R` is the reset, every other event has `C`.
-    pub(crate) fn from_codes(event: u8, reset: u8) -> Option<EventCode>
+    pub fn from_codes(event: u8, reset: u8) -> Option<EventCode>
         ensures { λ r. ⌜ r ≡ eventCode event reset ⌝ }
     {
         if reset != b'C' {
