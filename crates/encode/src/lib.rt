@@ -1,0 +1,2 @@
+// Packets and messages of the feed, written into a buffer that the caller lends.
+pub mod message;
