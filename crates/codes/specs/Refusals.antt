@@ -40,3 +40,8 @@ placeOf (placed number place) = Some place
 abbrev pub answered : {A B : Type 0} → (A → B) → Result A Refusal → Result B Returned
 answered tell (Ok value) = Ok (tell value)
 answered tell (Err refusal) = Err (returned refusal)
+
+-- whether a check that answers nothing else refused
+abbrev pub refusalOf : {A : Type 0} → Result A Refusal → Option Returned
+refusalOf (Ok value) = None
+refusalOf (Err refusal) = Some (returned refusal)

@@ -1,3 +1,4 @@
 pub mod Numbers
 pub mod Laying
 pub mod Writes
+pub mod Packings

@@ -1,3 +1,4 @@
 pub mod Encode
 pub mod Writing
 pub mod Typed
+pub mod Packing

@@ -6,7 +6,7 @@ ghost use Rattle.feed.specs.Wire.{be16, be32};
 ghost use Rattle.feed.specs.Verdict.{inRange};
 
 // The largest number of a packet or of a message.
-pub(crate) const LAST_NUMBER: u32 = 4_294_967_294;
+pub const LAST_NUMBER: u32 = 4_294_967_294;
 
 pub(crate) fn read_u16(bytes: &[u8], at: usize) -> u16
     requires { ⌜ at + 2 ≤ length (now bytes) ⌝ }

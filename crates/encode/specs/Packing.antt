@@ -1,0 +1,76 @@
+-- What the packet writers answer, and what they leave in the buffer.
+use mathlib.Core.Path.{_≡_}
+use mathlib.Core.Bool.{Bool, true, false, cond, _&&_}
+use mathlib.Core.List.{List, [], _∷_, _++_}
+use mathlib.Core.Logic.{_↔_}
+use Prim.Native.Nat.{ℕ, _+_}
+use lib.Dec.{leb}
+use lib.ListN.{length, take, drop}
+use Rattle.std.specs.declared.option.Option.{Option}
+use Rattle.std.specs.declared.option.Option.the-variants.{Some, None}
+use Rattle.std.specs.declared.result.Result.{Result}
+use Rattle.std.specs.declared.result.Result.the-variants.{Ok, Err}
+use Rattle.codes.specs.Codes.{packetCode}
+use Rattle.codes.specs.Refusals.{Returned, alone, placed}
+use Rattle.codes.specs.declared.packet.PacketType.{PacketType}
+use Rattle.codes.specs.declared.packet.PacketType.the-variants.{Messages, Heartbeat}
+use Rattle.feed.specs.Content.{Content}
+use Rattle.feed.specs.Items.{Item, good, refused, items}
+use Rattle.feed.specs.Layout.{LaidMessages, LaidPacket, LaidHeartbeat}
+use Rattle.feed.specs.Packets.{headed, packetVerdict}
+use Rattle.feed.specs.Verdict.{inRange}
+use Rattle.encode.specs.Encode.{bytes16, bytes32}
+use Rattle.encode.specs.Writing.{putAnswer, put}
+
+abbrev pub packetHeader : PacketType → (len subscription number : ℕ) → List ℕ
+packetHeader kind len subscription number = bytes16 len ++ (packetCode kind ∷ subscription ∷ bytes32 number)
+
+-- a header before joined messages
+abbrev pub packetBytes : (subscription number : ℕ) → List ℕ → List ℕ
+packetBytes subscription number messages = packetHeader Messages (8 + length messages) subscription number ++ messages
+
+abbrev pub firstRefused : List Item → Option Returned
+firstRefused [] = None
+firstRefused (good offset c ∷ is) = firstRefused is
+firstRefused (refused r ∷ is) = Some r
+
+-- there is a message, and none is broken
+abbrev pub messagesFault : ℕ → List ℕ → Option Returned
+messagesFault subscription [] = Some (placed 5 8)
+messagesFault subscription (b ∷ bs) = firstRefused (items subscription 8 (b ∷ bs))
+
+-- rows 1, 4 and 5, the uppermost first
+unfoldable pub packetFault : (subscription number : ℕ) → List ℕ → Option Returned
+packetFault subscription number messages =
+    cond (leb (length messages) 8184)
+    (cond (inRange number) (messagesFault subscription messages) (Some (alone 4)))
+    (Some (alone 1))
+
+abbrev pub heartbeatFault : ℕ → Option Returned
+heartbeatFault number = cond (leb number 4294967294) None (Some (alone 4))
+
+-- bytes put into a buffer where nothing is at fault, else the buffer as it was
+abbrev pub orFault : Option Returned → List ℕ → List ℕ → Result ℕ Returned
+orFault None own out = putAnswer (length own) out
+orFault (Some r) own out = Err r
+
+abbrev pub putUnless : Option Returned → List ℕ → List ℕ → List ℕ
+putUnless None own out = put own out
+putUnless (Some r) own out = out
+
+pub record WrotePacket (subscription number : ℕ) (messages before after : List ℕ) (answer : Result ℕ Returned) : Type 0 where
+  pub answers : answer ≡ orFault (packetFault subscription number messages) (packetBytes subscription number messages) before
+  pub leaves : after ≡ putUnless (packetFault subscription number messages) (packetBytes subscription number messages) before
+  -- what is written is a packet with those messages
+  pub laid : (contents : List Content) → LaidMessages subscription messages contents → answer ≡ Ok (8 + length messages) → LaidPacket subscription (take (8 + length messages) after) number contents
+  -- it is read as its header and those messages, in order, at their offsets
+  pub reads : answer ≡ Ok (8 + length messages) → packetVerdict subscription (take (8 + length messages) after) ≡ Ok (headed Messages subscription number)
+  pub messages-read : answer ≡ Ok (8 + length messages) → items subscription 8 (drop 8 (take (8 + length messages) after)) ≡ items subscription 8 messages
+  -- nothing is at fault exactly where the header and the messages make a packet
+  pub refuses : (packetFault subscription number messages ≡ None) ↔ ((contents : List Content) × LaidPacket subscription (packetBytes subscription number messages) number contents)
+
+pub record WroteHeartbeat (subscription number : ℕ) (before after : List ℕ) (answer : Result ℕ Returned) : Type 0 where
+  pub answers : answer ≡ orFault (heartbeatFault number) (packetHeader Heartbeat 8 subscription number) before
+  pub leaves : after ≡ putUnless (heartbeatFault number) (packetHeader Heartbeat 8 subscription number) before
+  pub laid : answer ≡ Ok 8 → LaidHeartbeat subscription (take 8 after) number
+  pub reads : answer ≡ Ok 8 → packetVerdict subscription (take 8 after) ≡ Ok (headed Heartbeat subscription number)
