@@ -20,7 +20,7 @@ use feed::symbol::Symbol;
 use feed::symbol::is_well_formed;
 
 // Puts bytes at the front of a buffer that has room for them.
-fn put_front(own: &[u8], out: &mut [u8]) -> Result<usize, Refusal>
+pub(crate) fn put_front(own: &[u8], out: &mut [u8]) -> Result<usize, Refusal>
     ensures answer { λ r. ⌜ answered (λ n. n) r ≡ putAnswer (length (now (own .entry))) (now (out .entry)) ⌝ }
     ensures after { λ _. ⌜ now (out .exit) ≡ put (now (own .entry)) (now (out .entry)) ⌝ }
 {

@@ -8,6 +8,8 @@ ghost use Rattle.encode.specs.Packing.{packetHeader, messagesFault, WrotePacke
 ghost use Rattle.encode.specs.Writing.{putAnswer, put};
 use codes::packet::PacketType;
 use codes::refusal::Refusal;
+use crate::message::put_front;
+use feed::numbers::LAST_NUMBER;
 use feed::numbers::in_range;
 use feed::packet::HEADER_SIZE;
 use feed::packet::LONGEST_PACKET;
@@ -51,4 +53,32 @@ fn put_both(header: &[u8; 8], messages: &[u8], out: &mut [u8]) -> Result<usize, 
     out[0..8].copy_from_slice(header);
     out[8..length].copy_from_slice(messages);
     Ok(length)
+}
+
+// Writes an M packet over joined messages. Refusals: 1 where it would be longer than 8,192 bytes, 4 for its number,
+// 5 at the offset in the packet of a message that is broken (8 where there is none), then 9.
+pub fn write_packet(messages: &[u8], number: u32, subscription: u8, out: &mut [u8]) -> Result<usize, Refusal>
+    ensures { λ r. ⌜ WrotePacket subscription number (now (messages .entry)) (now (out .entry)) (now (out .exit)) (answered (λ n. n) r) ⌝ }
+{
+    if messages.len() > LONGEST_PACKET - HEADER_SIZE {
+        return Err(Refusal::PacketLength);
+    }
+    if !in_range(number) {
+        return Err(Refusal::NumberOutOfRange);
+    }
+    check_messages(messages, subscription)?;
+    let length = (HEADER_SIZE + messages.len()) as u16;
+    let header = header_bytes(PacketType::Messages, length, subscription, number);
+    put_both(&header, messages, out)
+}
+
+// Writes a heartbeat that names the last M packet sent, or 0. Refusals: 4, then 9.
+pub fn write_heartbeat(number: u32, subscription: u8, out: &mut [u8]) -> Result<usize, Refusal>
+    ensures { λ r. ⌜ WroteHeartbeat subscription number (now (out .entry)) (now (out .exit)) (answered (λ n. n) r) ⌝ }
+{
+    if number > LAST_NUMBER {
+        return Err(Refusal::NumberOutOfRange);
+    }
+    let header = header_bytes(PacketType::Heartbeat, 8, subscription, number);
+    put_front(&header, out)
 }

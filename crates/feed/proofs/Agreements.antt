@@ -40,6 +40,10 @@ laid-items subscription offset (more own rest {c = c} {cs = cs} h hs) =
     ∙ ap (λ l. good offset c ∷ items subscription (offset + size c) l) (drop-at own rest (size c) long)
     ∙ ap (λ l. good offset c ∷ l) (laid-items subscription (offset + size c) hs)
 
+pub some-bytes : {subscription : ℕ} {bytes : List ℕ} {cs : List Content} → LaidMessages subscription bytes cs → 1 ≤ length cs → 0 < length bytes
+some-bytes none l = absurd (omega arith)
+some-bytes {subscription} (more own rest {c = c} h hs) l = omega (arith, length-append own rest, laid-size subscription own c h, some-size c)
+
 -- bytes that are left give an item
 some-item : (subscription offset : ℕ) (bytes : List ℕ) → 0 < length bytes → items subscription offset bytes ≡ [] → ⊥
 some-item subscription offset bytes some h = by (verdict subscription offset bytes) (sym (items-then subscription offset bytes some) ∙ h)
@@ -134,16 +138,12 @@ pub packets-agree : (subscription : ℕ) (bytes : List ℕ) → PacketsAgree sub
 packets-agree subscription bytes number contents = (
   λ r. let h = packet-laid subscription bytes Messages number (r .0) in
     record { header = h .0; number-good = number-from number (h .1); some = some contents (r .1) (ltb-true 8 (length bytes) (h .2)); messages = items-laid subscription 8 contents (drop 8 bytes) (r .1) },
-  λ l. (laid-packet subscription bytes Messages number (l .header) (number-passes number (l .number-good)) (let rest = long (l .messages) (l .some) in lt-ltb 8 (length bytes) (omega (arith, length-drop 8 bytes))), laid-items subscription 8 (l .messages)),
+  λ l. (laid-packet subscription bytes Messages number (l .header) (number-passes number (l .number-good)) (let rest = some-bytes (l .messages) (l .some) in lt-ltb 8 (length bytes) (omega (arith, length-drop 8 bytes))), laid-items subscription 8 (l .messages)),
 )
   where
     some : (contents : List Content) → items subscription 8 (drop 8 bytes) ≡ goods 8 contents → 8 < length bytes → 1 ≤ length contents
     some [] e big = absurd (some-item subscription 8 (drop 8 bytes) (omega (arith, length-drop 8 bytes)) e)
     some (c ∷ cs) e big = omega arith
-
-    long : {rest : List ℕ} {cs : List Content} → LaidMessages subscription rest cs → 1 ≤ length cs → 0 < length rest
-    long none l = absurd (omega arith)
-    long (more own rest {c = c} h hs) l = omega (arith, length-append own rest, laid-size subscription own c h, some-size c)
 
 pub heartbeats-agree : (subscription : ℕ) (bytes : List ℕ) → HeartbeatsAgree subscription bytes (packetVerdict subscription bytes)
 heartbeats-agree subscription bytes number = (

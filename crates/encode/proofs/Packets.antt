@@ -1,0 +1,192 @@
+-- A written packet is laid out as its header and its messages.
+use mathlib.Core.Path.{_≡_, refl, sym, ap, subst, _∙_}
+use mathlib.Core.Bool.{Bool, true, false, cond}
+use mathlib.Core.List.{List, [], _∷_, _++_}
+use mathlib.Core.Logic.{_↔_}
+use Prim.Native.Nat.{ℕ, zero, suc, _+_, _≤_, _<_, _^_}
+use native.Mathlib.Omega.{arith}
+use lib.Dec.{leb}
+use lib.ListN.{length, take, drop}
+use Rattle.std.specs.declared.option.Option.{Option}
+use Rattle.std.specs.declared.option.Option.the-variants.{Some, None}
+use Rattle.std.specs.declared.result.Result.{Result}
+use Rattle.std.specs.declared.result.Result.the-variants.{Ok, Err}
+use Rattle.std.proofs.shelf.Lists.{take-at}
+use Rattle.std.proofs.shelf.Tests.{cond-true, cond-false, leb-true, le-leb, lt-leb}
+use Rattle.codes.specs.Codes.{packetCode}
+use Rattle.codes.specs.Refusals.{Returned, alone, placed}
+use Rattle.codes.specs.declared.packet.PacketType.{PacketType}
+use Rattle.codes.specs.declared.packet.PacketType.the-variants.{Messages, Heartbeat}
+use Rattle.feed.specs.Content.{Content, size}
+use Rattle.feed.specs.Items.{Item, good, refused, itemThen, atMost, items, goods}
+use Rattle.feed.specs.Layout.{Number, LaidMessages, none, more, PacketHeader, LaidPacket, LaidHeartbeat}
+use Rattle.feed.specs.Packets.{headed, packetVerdict}
+use Rattle.feed.specs.Verdict.{verdict, inRange}
+use Rattle.feed.proofs.Agreements.{some-bytes, laid-items, items-laid, packets-agree, heartbeats-agree}
+use Rattle.feed.proofs.Layouts.{number-passes}
+use Rattle.feed.proofs.Readings.{number-from}
+use Rattle.encode.specs.Packing.{packetHeader, packetBytes, firstRefused, messagesFault, packetFault, heartbeatFault, orFault, putUnless, WrotePacket, WroteHeartbeat}
+use Rattle.encode.specs.Writing.{putAnswer, put}
+use Rattle.encode.proofs.Numbers.{back16, back32}
+use Rattle.encode.proofs.Packings.{fault-some}
+
+-- items without a refusal are good messages
+all-good : (k subscription offset : ℕ) (bytes : List ℕ) → firstRefused (atMost k subscription offset bytes) ≡ None → (cs : List Content) × (atMost k subscription offset bytes ≡ goods offset cs)
+all-good zero subscription offset bytes e = ([], refl)
+all-good (suc k) subscription offset [] e = ([], refl)
+all-good (suc k) subscription offset (b ∷ bs) e = by (verdict subscription offset (b ∷ bs)) e (λ c h. all-good k subscription (offset + size c) (drop (size c) (b ∷ bs)) h)
+  where
+    by : (v : Result Content Returned) → firstRefused (itemThen offset v (λ c. atMost k subscription (offset + size c) (drop (size c) (b ∷ bs)))) ≡ None → ((c : Content) → firstRefused (atMost k subscription (offset + size c) (drop (size c) (b ∷ bs))) ≡ None → (cs : List Content) × (atMost k subscription (offset + size c) (drop (size c) (b ∷ bs)) ≡ goods (offset + size c) cs)) → (cs : List Content) × (itemThen offset v (λ c. atMost k subscription (offset + size c) (drop (size c) (b ∷ bs))) ≡ goods offset cs)
+    by (Ok c) e later = let h = later c e in (c ∷ h .0, ap (λ l. good offset c ∷ l) (h .1))
+    by (Err r) e later = let z : _≡_ {A = ℕ} 0 1 = cc in absurd (omega arith)
+
+items-good-all : (subscription offset : ℕ) (bytes : List ℕ) → firstRefused (items subscription offset bytes) ≡ None → (cs : List Content) × (items subscription offset bytes ≡ goods offset cs)
+unfolding items
+items-good-all subscription offset bytes e = all-good (length bytes) subscription offset bytes e
+
+none-refused : (offset : ℕ) (cs : List Content) → firstRefused (goods offset cs) ≡ None
+none-refused offset [] = refl
+none-refused offset (c ∷ cs) = none-refused (offset + size c) cs
+
+some-messages : {subscription : ℕ} {bytes : List ℕ} {cs : List Content} → LaidMessages subscription bytes cs → 0 < length bytes → 1 ≤ length cs
+some-messages none h = absurd (omega arith)
+some-messages (more own rest l ls) h = omega arith
+
+-- what nothing at fault says
+pub record Sound (subscription number : ℕ) (messages : List ℕ) : Type 0 where
+  pub short : length messages ≤ 8184
+  pub number-good : Number number
+  pub some : 0 < length messages
+  pub unbroken : firstRefused (items subscription 8 messages) ≡ None
+
+module _ (subscription number : ℕ) (messages : List ℕ) where
+  sound : packetFault subscription number messages ≡ None → Sound subscription number messages
+  unfolding packetFault
+  sound e = by (leb (length messages) 8184) (inRange number) refl refl e
+    where
+      by-body : (ms : List ℕ) → messages ≡ ms → messagesFault subscription ms ≡ None → (0 < length messages) × (firstRefused (items subscription 8 messages) ≡ None)
+      by-body [] f e = let z : _≡_ {A = ℕ} 0 1 = cc in absurd (omega arith)
+      by-body (b ∷ bs) f e = (omega (arith, ap length f), ap (λ l. firstRefused (items subscription 8 l)) f ∙ e)
+
+      by : (l n : Bool) → leb (length messages) 8184 ≡ l → inRange number ≡ n → cond l (cond n (messagesFault subscription messages) (Some (alone 4))) (Some (alone 1)) ≡ None → Sound subscription number messages
+      by true true l n e = let b = by-body messages refl e in record { short = leb-true _ _ l; number-good = number-from number n; some = b .0; unbroken = b .1 }
+      by true false l n e = let z : _≡_ {A = ℕ} 0 1 = cc in absurd (omega arith)
+      by false n l m e = let z : _≡_ {A = ℕ} 0 1 = cc in absurd (omega arith)
+
+  unsound : Sound subscription number messages → packetFault subscription number messages ≡ None
+  unfolding packetFault
+  unsound s = cond-true _ _ _ (le-leb _ _ (s .short)) ∙ cond-true _ _ _ (number-passes number (s .number-good)) ∙ fault-some subscription messages (s .some) ∙ s .unbroken
+
+  header-laid : Sound subscription number messages → PacketHeader 77 subscription number (packetBytes subscription number messages)
+  header-laid s =
+      let short = s .short in
+      let high = s .number-good .high in
+      record {
+        shortest = omega arith;
+        longest = omega arith;
+        length-field = back16 (8 + length messages) (omega arith) ∙ (omega arith);
+        type-field = refl;
+        subscription-field = refl;
+        number-field = back32 number (omega arith);
+      }
+
+  packet-laid : (contents : List Content) → Sound subscription number messages → LaidMessages subscription messages contents → LaidPacket subscription (packetBytes subscription number messages) number contents
+  packet-laid contents s h = record { header = header-laid s; number-good = s .number-good; some = some-messages h (s .some); messages = h }
+
+  contents-of : Sound subscription number messages → (contents : List Content) × LaidMessages subscription messages contents
+  contents-of s = let g = items-good-all subscription 8 messages (s .unbroken) in (g .0, items-laid subscription 8 (g .0) messages (g .1))
+
+  exact : (packetFault subscription number messages ≡ None) ↔ ((contents : List Content) × LaidPacket subscription (packetBytes subscription number messages) number contents)
+  exact = (
+    λ e. let c = contents-of (sound e) in (c .0, packet-laid (c .0) (sound e) (c .1)),
+    λ p. unsound (from (p .0) (p .1)),
+  )
+    where
+      from : (contents : List Content) → LaidPacket subscription (packetBytes subscription number messages) number contents → Sound subscription number messages
+      from contents l =
+          let longest = l .header .longest in
+          record {
+            short = omega arith;
+            number-good = l .number-good;
+            some = some-bytes (l .messages) (l .some);
+            unbroken = ap firstRefused (laid-items subscription 8 (l .messages)) ∙ none-refused 8 contents;
+          }
+
+  module _ (before : List ℕ) where
+    pub packet-refused : (r : Returned) → packetFault subscription number messages ≡ Some r → WrotePacket subscription number messages before before (Err r)
+    packet-refused r e = record {
+      answers = sym (ap (λ f. orFault f (packetBytes subscription number messages) before) e);
+      leaves = sym (ap (λ f. putUnless f (packetBytes subscription number messages) before) e);
+      laid = λ contents h a. let z : _≡_ {A = ℕ} 0 1 = cc in absurd (omega arith);
+      reads = λ a. let z : _≡_ {A = ℕ} 0 1 = cc in absurd (omega arith);
+      messages-read = λ a. let z : _≡_ {A = ℕ} 0 1 = cc in absurd (omega arith);
+      refuses = exact;
+    }
+
+    module _ (after : List ℕ) (answer : Result ℕ Returned) (fault : packetFault subscription number messages ≡ None) (a : answer ≡ putAnswer (length (packetBytes subscription number messages)) before) (b : after ≡ put (packetBytes subscription number messages) before) where
+      front : answer ≡ Ok (8 + length messages) → take (8 + length messages) after ≡ packetBytes subscription number messages
+      front e = by (leb (length (packetBytes subscription number messages)) (length before)) refl
+        where
+          by : (t : Bool) → leb (length (packetBytes subscription number messages)) (length before) ≡ t → take (8 + length messages) after ≡ packetBytes subscription number messages
+          by true t = ap (take (8 + length messages)) (b ∙ cond-true _ _ _ t) ∙ take-at (packetBytes subscription number messages) (drop (length (packetBytes subscription number messages)) before) (8 + length messages) (omega arith)
+          by false t = let f = a ∙ cond-false _ _ _ t in let z : _≡_ {A = ℕ} 0 1 = cc in absurd (omega arith)
+
+      laid-front : (contents : List Content) → LaidMessages subscription messages contents → answer ≡ Ok (8 + length messages) → LaidPacket subscription (take (8 + length messages) after) number contents
+      laid-front contents h e = subst (λ l. LaidPacket subscription l number contents) (sym (front e)) (packet-laid contents (sound fault) h)
+
+      pub packet-put : WrotePacket subscription number messages before after answer
+      packet-put = record {
+        answers = a ∙ sym (ap (λ f. orFault f (packetBytes subscription number messages) before) fault);
+        leaves = b ∙ sym (ap (λ f. putUnless f (packetBytes subscription number messages) before) fault);
+        laid = laid-front;
+        reads = λ e. let c = contents-of (sound fault) in packets-agree subscription (take (8 + length messages) after) number (c .0) .1 (laid-front (c .0) (c .1) e) .0;
+        messages-read = λ e. ap (λ l. items subscription 8 (drop 8 l)) (front e);
+        refuses = exact;
+      }
+
+-- the rows above the messages
+pub fault-length : (subscription number : ℕ) (messages : List ℕ) → 8184 < length messages → packetFault subscription number messages ≡ Some (alone 1)
+unfolding packetFault
+fault-length subscription number messages h = cond-false _ _ _ (lt-leb _ _ h)
+
+module _ (subscription number : ℕ) (messages : List ℕ) (short : length messages ≤ 8184) where
+  pub fault-number : inRange number ≡ false → packetFault subscription number messages ≡ Some (alone 4)
+  unfolding packetFault
+  fault-number n = cond-true _ _ _ (le-leb _ _ short) ∙ cond-false _ _ _ n
+
+  pub fault-messages : (o : Option Returned) → inRange number ≡ true → o ≡ messagesFault subscription messages → packetFault subscription number messages ≡ o
+  unfolding packetFault
+  fault-messages o n e = cond-true _ _ _ (le-leb _ _ short) ∙ cond-true _ _ _ n ∙ sym e
+
+-- the heartbeat
+module _ (subscription number : ℕ) (before : List ℕ) where
+  pub heartbeat-refused : 4294967294 < number → WroteHeartbeat subscription number before before (Err (alone 4))
+  heartbeat-refused h =
+      let e = cond-false (leb number 4294967294) None (Some (alone 4)) (lt-leb _ _ h) in
+      record {
+        answers = sym (ap (λ f. orFault f (packetHeader Heartbeat 8 subscription number) before) e);
+        leaves = sym (ap (λ f. putUnless f (packetHeader Heartbeat 8 subscription number) before) e);
+        laid = λ a. let z : _≡_ {A = ℕ} 0 1 = cc in absurd (omega arith);
+        reads = λ a. let z : _≡_ {A = ℕ} 0 1 = cc in absurd (omega arith);
+      }
+
+  module _ (after : List ℕ) (answer : Result ℕ Returned) (high : number ≤ 4294967294) (a : answer ≡ putAnswer 8 before) (b : after ≡ put (packetHeader Heartbeat 8 subscription number) before) where
+    beat-front : answer ≡ Ok 8 → LaidHeartbeat subscription (take 8 after) number
+    beat-front e = by (leb 8 (length before)) refl
+      where
+        laid : LaidHeartbeat subscription (packetHeader Heartbeat 8 subscription number) number
+        laid = record { header = record { shortest = omega arith; longest = omega arith; length-field = refl; type-field = refl; subscription-field = refl; number-field = back32 number (omega arith) }; all = refl; high = high }
+
+        by : (t : Bool) → leb 8 (length before) ≡ t → LaidHeartbeat subscription (take 8 after) number
+        by true t = subst (λ l. LaidHeartbeat subscription l number) (sym (ap (take 8) (b ∙ cond-true _ _ _ t) ∙ take-at (packetHeader Heartbeat 8 subscription number) (drop 8 before) 8 refl)) laid
+        by false t = let f = a ∙ cond-false _ _ _ t in let z : _≡_ {A = ℕ} 0 1 = cc in absurd (omega arith)
+
+    pub heartbeat-put : WroteHeartbeat subscription number before after answer
+    heartbeat-put =
+        let f = cond-true (leb number 4294967294) None (Some (alone 4)) (le-leb _ _ high) in
+        record {
+          answers = a ∙ sym (ap (λ f. orFault f (packetHeader Heartbeat 8 subscription number) before) f);
+          leaves = b ∙ sym (ap (λ f. putUnless f (packetHeader Heartbeat 8 subscription number) before) f);
+          laid = beat-front;
+          reads = λ e. heartbeats-agree subscription (take 8 after) number .1 (beat-front e);
+        }
