@@ -102,7 +102,11 @@ impl EventCode {
         ensures { λ r. ⌜ r ≡ eventCode event reset ⌝ }
     {
         if reset != b'C' {
-            return if reset == b'R' && event == b'I' { Some(EventCode::Reset) } else { None };
+            return if reset == b'R' && event == b'I' {
+                Some(EventCode::Reset)
+            } else {
+                None
+            };
         }
         match SeriesEvent::from_code(event) {
             Some(code) => Some(EventCode::Series(code)),

@@ -42,10 +42,16 @@ pub fn show_packet(rt: &LibcRuntime, at: usize, bytes: &[u8]) -> io::Result<()> 
     let number = header.number;
     match header.kind {
         PacketType::Messages => {
-            println!(rt, "packet {at} M subscription {subscription} number {number}")?;
+            println!(
+                rt,
+                "packet {at} M subscription {subscription} number {number}"
+            )?;
         }
         PacketType::Heartbeat => {
-            println!(rt, "packet {at} B subscription {subscription} number {number}")?;
+            println!(
+                rt,
+                "packet {at} B subscription {subscription} number {number}"
+            )?;
         }
     }
     for item in packet.messages() {
@@ -83,8 +89,14 @@ fn show_quote(rt: &LibcRuntime, quote: QuoteFields) -> io::Result<()> {
     let delete = quote.delete.number();
     let contracts = quote.contracts;
     let price = quote.price;
-    print!(rt, "quote stamp {stamp} number {number} symbol {symbol} side {side} ")?;
-    println!(rt, "insert {insert} delete {delete} contracts {contracts} price {price}")
+    print!(
+        rt,
+        "quote stamp {stamp} number {number} symbol {symbol} side {side} "
+    )?;
+    println!(
+        rt,
+        "insert {insert} delete {delete} contracts {contracts} price {price}"
+    )
 }
 
 fn show_imbalance(rt: &LibcRuntime, imbalance: ImbalanceFields) -> io::Result<()> {
@@ -97,17 +109,30 @@ fn show_imbalance(rt: &LibcRuntime, imbalance: ImbalanceFields) -> io::Result<()
     let price = imbalance.price;
     let total = imbalance.total;
     let market = imbalance.market;
-    print!(rt, "imbalance stamp {stamp} number {number} symbol {symbol} auction {auction} time {time} ")?;
-    println!(rt, "contracts {contracts} price {price} total {total} market {market}")
+    print!(
+        rt,
+        "imbalance stamp {stamp} number {number} symbol {symbol} auction {auction} time {time} "
+    )?;
+    println!(
+        rt,
+        "contracts {contracts} price {price} total {total} market {market}"
+    )
 }
 
 fn show_event(rt: &LibcRuntime, event: EventFields) -> io::Result<()> {
     let stamp = event.stamp;
     match event.form {
-        EventForm::Numbered { number, symbol, code } => {
+        EventForm::Numbered {
+            number,
+            symbol,
+            code,
+        } => {
             let symbol = Name(symbol);
             let code = char::from(code.code());
-            println!(rt, "event stamp {stamp} number {number} symbol {symbol} code {code}")
+            println!(
+                rt,
+                "event stamp {stamp} number {number} symbol {symbol} code {code}"
+            )
         }
         EventForm::Underlying(code) => {
             let code = char::from(code.code());

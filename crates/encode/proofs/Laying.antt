@@ -1,31 +1,24 @@
 -- What is encoded is laid out as the content that it was made from.
-use mathlib.Core.Path.{_≡_, refl, sym, ap, subst, _∙_}
-use mathlib.Core.Bool.{Bool, true, false, _&&_}
+use mathlib.Core.Path.{_≡_, refl, sym, subst}
+use mathlib.Core.Bool.{true}
 use mathlib.Core.List.{List, [], _∷_, _++_}
 use Prim.Native.Nat.{ℕ, _^_, _<_}
-use native.Mathlib.Omega.{arith}
 use lib.Dec.{leb}
-use lib.ListN.{length}
 use Rattle.std.proofs.shelf.Tests.{and-parts, and-from, leb-true, le-leb}
-use Rattle.codes.specs.Codes.{eventByte, resetByte}
-use Rattle.codes.specs.declared.quote.Side.{Side}
-use Rattle.codes.specs.declared.quote.Level.{Level}
-use Rattle.codes.specs.declared.auction.Auction.{Auction}
 use Rattle.codes.specs.declared.event.SeriesEvent.{SeriesEvent}
-use Rattle.feed.specs.Content.{Content, quote, imbalance, event, size}
-use Rattle.feed.specs.Layout.{MessageHeader, Named, LaidQuote, LaidImbalance, LaidForm, LaidEvent, LaidMessage}
+use Rattle.feed.specs.Content.{Content, quote, imbalance, event}
+use Rattle.feed.specs.Layout.{Named, LaidQuote, LaidImbalance, LaidForm, LaidEvent, LaidMessage}
 use Rattle.feed.specs.Symbols.{wellFormed}
 use Rattle.feed.specs.Verdict.{inRange}
 use Rattle.feed.specs.declared.fields.QuoteFields.{QuoteFields}
 use Rattle.feed.specs.declared.fields.ImbalanceFields.{ImbalanceFields}
-use Rattle.feed.specs.declared.fields.EventFields.{EventFields}
 use Rattle.feed.specs.declared.fields.EventForm.{EventForm}
 use Rattle.feed.specs.declared.fields.EventForm.the-variants.{Numbered, Underlying, Reset}
 use Rattle.feed.proofs.Layouts.{number-passes}
 use Rattle.feed.proofs.Readings.{number-from}
 use Rattle.feed.proofs.Symbols.{symbol-passes, symbol-from}
-use Rattle.encode.specs.Encode.{bytes16, bytes32, nulls, headerBytes, namedBytes, quoteBytes, imbalanceBytes, eventBytes, encoded, nameable, writableForm, writable}
-use Rattle.encode.specs.Typed.{TypedQuote, TypedImbalance, TypedForm, TypedEvent, Typed}
+use Rattle.encode.specs.Encode.{headerBytes, namedBytes, quoteBytes, imbalanceBytes, eventBytes, encoded, nameable, writableForm, writable}
+use Rattle.encode.specs.Typed.{TypedQuote, TypedImbalance, TypedForm, Typed}
 use Rattle.encode.proofs.Numbers.{back16, back32, eight}
 
 -- fields that are laid out can be written

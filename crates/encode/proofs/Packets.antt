@@ -1,9 +1,9 @@
 -- A written packet is laid out as its header and its messages.
 use mathlib.Core.Path.{_≡_, refl, sym, ap, subst, _∙_}
 use mathlib.Core.Bool.{Bool, true, false, cond}
-use mathlib.Core.List.{List, [], _∷_, _++_}
+use mathlib.Core.List.{List, [], _∷_}
 use mathlib.Core.Logic.{_↔_}
-use Prim.Native.Nat.{ℕ, zero, suc, _+_, _≤_, _<_, _^_}
+use Prim.Native.Nat.{ℕ, zero, suc, _+_, _≤_, _<_}
 use native.Mathlib.Omega.{arith}
 use lib.Dec.{leb}
 use lib.ListN.{length, take, drop}
@@ -13,19 +13,16 @@ use Rattle.std.specs.declared.result.Result.{Result}
 use Rattle.std.specs.declared.result.Result.the-variants.{Ok, Err}
 use Rattle.std.proofs.shelf.Lists.{take-at}
 use Rattle.std.proofs.shelf.Tests.{cond-true, cond-false, leb-true, le-leb, lt-leb}
-use Rattle.codes.specs.Codes.{packetCode}
-use Rattle.codes.specs.Refusals.{Returned, alone, placed}
-use Rattle.codes.specs.declared.packet.PacketType.{PacketType}
-use Rattle.codes.specs.declared.packet.PacketType.the-variants.{Messages, Heartbeat}
+use Rattle.codes.specs.Refusals.{Returned, alone}
+use Rattle.codes.specs.declared.packet.PacketType.the-variants.{Heartbeat}
 use Rattle.feed.specs.Content.{Content, size}
-use Rattle.feed.specs.Items.{Item, good, refused, itemThen, atMost, items, goods}
+use Rattle.feed.specs.Items.{good, itemThen, atMost, items, goods}
 use Rattle.feed.specs.Layout.{Number, LaidMessages, none, more, PacketHeader, LaidPacket, LaidHeartbeat}
-use Rattle.feed.specs.Packets.{headed, packetVerdict}
 use Rattle.feed.specs.Verdict.{verdict, inRange}
 use Rattle.feed.proofs.Agreements.{some-bytes, laid-items, items-laid, packets-agree, heartbeats-agree}
 use Rattle.feed.proofs.Layouts.{number-passes}
 use Rattle.feed.proofs.Readings.{number-from}
-use Rattle.encode.specs.Packing.{packetHeader, packetBytes, firstRefused, messagesFault, packetFault, heartbeatFault, orFault, putUnless, WrotePacket, WroteHeartbeat}
+use Rattle.encode.specs.Packing.{packetHeader, packetBytes, firstRefused, messagesFault, packetFault, orFault, putUnless, WrotePacket, WroteHeartbeat}
 use Rattle.encode.specs.Writing.{putAnswer, put}
 use Rattle.encode.proofs.Numbers.{back16, back32}
 use Rattle.encode.proofs.Packings.{fault-some}

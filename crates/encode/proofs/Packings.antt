@@ -1,21 +1,19 @@
 -- Joined messages checked one after the other, and put into a buffer behind a header.
-use mathlib.Core.Path.{_≡_, refl, sym, ap, subst, _∙_}
-use mathlib.Core.Bool.{Bool, true, false, cond}
+use mathlib.Core.Path.{_≡_, refl, sym, ap, _∙_}
+use mathlib.Core.Bool.{true, false}
 use mathlib.Core.List.{List, [], _∷_, _++_, append-assoc}
 use Prim.Native.Nat.{ℕ, _+_, _-_, _≤_, _<_}
 use native.Mathlib.Omega.{arith}
 use borrow.Rule.Slice.PartMut.{putMid}
 use lib.Dec.{leb}
-use lib.ListN.{length, take, drop, length-append, length-drop}
-use Rattle.std.specs.declared.option.Option.{Option}
+use lib.ListN.{length, drop, length-append, length-drop}
 use Rattle.std.specs.declared.option.Option.the-variants.{Some, None}
-use Rattle.std.specs.declared.result.Result.{Result}
 use Rattle.std.specs.declared.result.Result.the-variants.{Ok, Err}
 use Rattle.std.proofs.shelf.Lists.{take-at, drop-at, drop-drop}
 use Rattle.std.proofs.shelf.Tests.{cond-true, cond-false, le-leb, lt-leb}
 use Rattle.codes.specs.Refusals.{Returned, alone, placed}
 use Rattle.feed.specs.Content.{Content, size}
-use Rattle.feed.specs.Items.{Item, good, refused, items}
+use Rattle.feed.specs.Items.{items}
 use Rattle.feed.specs.Verdict.{verdict}
 use Rattle.feed.proofs.Steps.{size-fits, items-good, items-refused, items-none}
 use Rattle.encode.specs.Packing.{firstRefused, messagesFault}
@@ -31,18 +29,18 @@ fault-none subscription (b ∷ bs) h = absurd (omega arith)
 
 -- one more message
 module _ (subscription : ℕ) (messages : List ℕ) (at : ℕ) where
-  pub check-good : at < length messages → (c : Content) (n : ℕ) → verdict subscription (8 + at) (drop at messages) ≡ Ok c → n ≡ size c → (at + n ≤ length messages) × (firstRefused (items subscription (8 + at) (drop at messages)) ≡ firstRefused (items subscription (8 + (at + n)) (drop (at + n) messages)))
+  pub check-good : at < length messages → (c : Content) (n : ℕ) → Ok c ≡ verdict subscription (8 + at) (drop at messages) → n ≡ size c → (at + n ≤ length messages) × (firstRefused (items subscription (8 + at) (drop at messages)) ≡ firstRefused (items subscription (8 + (at + n)) (drop (at + n) messages)))
   check-good inside c n read is =
       let long = length-drop at messages in
-      let fits = size-fits subscription (8 + at) (drop at messages) c read in
-      let first = items-good subscription (8 + at) (drop at messages) c (omega arith) read in
+      let fits = size-fits subscription (8 + at) (drop at messages) c (sym read) in
+      let first = items-good subscription (8 + at) (drop at messages) c (omega arith) (sym read) in
       let rest = drop-drop (size c) at messages in
       let place : 8 + at + size c ≡ 8 + (at + n) = omega arith in
       let after : at + size c ≡ at + n = omega arith in
       (omega arith, ap firstRefused first ∙ ap (λ l. firstRefused (items subscription (8 + at + size c) l)) rest ∙ ap (λ k. firstRefused (items subscription k (drop (at + size c) messages))) place ∙ ap (λ k. firstRefused (items subscription (8 + (at + n)) (drop k messages))) after)
 
-  pub check-refused : at < length messages → (r : Returned) → verdict subscription (8 + at) (drop at messages) ≡ Err r → firstRefused (items subscription (8 + at) (drop at messages)) ≡ Some r
-  check-refused inside r read = ap firstRefused (items-refused subscription (8 + at) (drop at messages) r (omega (arith, length-drop at messages)) read)
+  pub check-refused : at < length messages → (r : Returned) → Err r ≡ verdict subscription (8 + at) (drop at messages) → firstRefused (items subscription (8 + at) (drop at messages)) ≡ Some r
+  check-refused inside r read = ap firstRefused (items-refused subscription (8 + at) (drop at messages) r (omega (arith, length-drop at messages)) (sym read))
 
   pub check-end : length messages ≤ at → firstRefused (items subscription (8 + at) (drop at messages)) ≡ None
   check-end past = ap firstRefused (items-none subscription (8 + at) (drop at messages) (omega (arith, length-drop at messages)))

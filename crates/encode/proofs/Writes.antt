@@ -1,8 +1,8 @@
 -- A message that is put into a buffer, or refused.
 use mathlib.Core.Path.{_≡_, refl, sym, ap, subst, _∙_}
-use mathlib.Core.Bool.{Bool, true, false, cond}
-use mathlib.Core.List.{List, [], _∷_, _++_}
-use Prim.Native.Nat.{ℕ, _≤_}
+use mathlib.Core.Bool.{Bool, true, false}
+use mathlib.Core.List.{List, _++_}
+use Prim.Native.Nat.{ℕ}
 use native.Mathlib.Omega.{arith}
 use lib.Dec.{leb}
 use lib.ListN.{length, take, drop}
@@ -10,10 +10,9 @@ use Rattle.std.specs.declared.result.Result.{Result}
 use Rattle.std.specs.declared.result.Result.the-variants.{Ok, Err}
 use Rattle.std.proofs.shelf.Lists.{take-at}
 use Rattle.std.proofs.shelf.Tests.{cond-true, cond-false}
-use Rattle.codes.specs.Refusals.{Returned, alone, placed}
+use Rattle.codes.specs.Refusals.{Returned, placed}
 use Rattle.feed.specs.Content.{Content, size}
 use Rattle.feed.specs.Layout.{LaidMessage}
-use Rattle.feed.specs.Verdict.{verdict}
 use Rattle.feed.proofs.Judgements.{verdict-laid}
 use Rattle.feed.proofs.Steps.{laid-size}
 use Rattle.encode.specs.Encode.{encoded, writable}

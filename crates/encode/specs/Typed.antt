@@ -1,7 +1,6 @@
 -- Fields as the types of the code have them, which makes them fit their places.
 use mathlib.Core.Path.{_≡_}
-use Prim.Native.Nat.{ℕ, _<_, _^_}
-use mathlib.Core.List.{List}
+use Prim.Native.Nat.{_<_, _^_}
 use lib.ListN.{length}
 use Rattle.feed.specs.Content.{Content, quote, imbalance, event}
 use Rattle.feed.specs.declared.fields.QuoteFields.{QuoteFields}

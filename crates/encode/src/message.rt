@@ -6,7 +6,7 @@ ghost use lib.Dec.{leb};
 ghost use lib.ListN.{length};
 ghost use Rattle.codes.specs.Refusals.{answered};
 ghost use Rattle.feed.specs.Content.{quote, imbalance, event};
-ghost use Rattle.encode.specs.Encode.{encoded, quoteBytes, imbalanceBytes, eventBytes, codedEventBytes, nameable, writableForm};
+ghost use Rattle.encode.specs.Encode.{quoteBytes, imbalanceBytes, eventBytes, codedEventBytes, nameable, writableForm};
 ghost use Rattle.encode.specs.Writing.{putAnswer, put, Wrote};
 ghost use Rattle.encode.specs.Typed.{TypedQuote, TypedImbalance, TypedEvent};
 use codes::event::EventCode;
@@ -66,8 +66,58 @@ fn quote_bytes(quote: &QuoteFields, subscription: u8) -> [u8; 52]
     let [c0, c1, c2, c3] = quote.contracts.to_be_bytes();
     let [p0, p1, p2, p3] = quote.price.to_be_bytes();
     [
-        0, 52, b'q', subscription, t0, t1, t2, t3, n0, n1, n2, n3, 0, 0, 0, 0, 0, 0, 0, 0, 0, 0, 0, 0, 0, 0, 0, 0, 0,
-        0, 0, 0, s0, s1, s2, s3, s4, s5, s6, s7, 0, side, insert, delete, c0, c1, c2, c3, p0, p1, p2, p3,
+        0,
+        52,
+        b'q',
+        subscription,
+        t0,
+        t1,
+        t2,
+        t3,
+        n0,
+        n1,
+        n2,
+        n3,
+        0,
+        0,
+        0,
+        0,
+        0,
+        0,
+        0,
+        0,
+        0,
+        0,
+        0,
+        0,
+        0,
+        0,
+        0,
+        0,
+        0,
+        0,
+        0,
+        0,
+        s0,
+        s1,
+        s2,
+        s3,
+        s4,
+        s5,
+        s6,
+        s7,
+        0,
+        side,
+        insert,
+        delete,
+        c0,
+        c1,
+        c2,
+        c3,
+        p0,
+        p1,
+        p2,
+        p3,
     ]
 }
 
@@ -85,13 +135,76 @@ fn imbalance_bytes(imbalance: &ImbalanceFields, subscription: u8) -> [u8; 60]
     let [o0, o1, o2, o3] = imbalance.total.to_be_bytes();
     let [m0, m1, m2, m3] = imbalance.market.to_be_bytes();
     [
-        0, 60, b'i', subscription, t0, t1, t2, t3, n0, n1, n2, n3, 0, 0, 0, 0, 0, 0, 0, 0, 0, 0, 0, 0, 0, 0, 0, 0, 0,
-        0, 0, 0, s0, s1, s2, s3, s4, s5, s6, s7, 0, auction, h0, h1, c0, c1, c2, c3, p0, p1, p2, p3, o0, o1, o2, o3,
-        m0, m1, m2, m3,
+        0,
+        60,
+        b'i',
+        subscription,
+        t0,
+        t1,
+        t2,
+        t3,
+        n0,
+        n1,
+        n2,
+        n3,
+        0,
+        0,
+        0,
+        0,
+        0,
+        0,
+        0,
+        0,
+        0,
+        0,
+        0,
+        0,
+        0,
+        0,
+        0,
+        0,
+        0,
+        0,
+        0,
+        0,
+        s0,
+        s1,
+        s2,
+        s3,
+        s4,
+        s5,
+        s6,
+        s7,
+        0,
+        auction,
+        h0,
+        h1,
+        c0,
+        c1,
+        c2,
+        c3,
+        p0,
+        p1,
+        p2,
+        p3,
+        o0,
+        o1,
+        o2,
+        o3,
+        m0,
+        m1,
+        m2,
+        m3,
     ]
 }
 
-fn coded_event_bytes(stamp: u32, number: u32, symbol: Symbol, code: EventCode, subscription: u8) -> [u8; 44]
+fn coded_event_bytes(
+    stamp: u32,
+    number: u32,
+    symbol: Symbol,
+    code: EventCode,
+    subscription: u8,
+) -> [u8; 44]
     ensures bytes { λ r. ⌜ r ≡ codedEventBytes subscription stamp number symbol code ⌝ }
     ensures typed { λ _. ⌜ (number < 2 ^ 32) × (length symbol ≡ 8) ⌝ }
 {
@@ -101,8 +214,50 @@ fn coded_event_bytes(stamp: u32, number: u32, symbol: Symbol, code: EventCode, s
     let event = code.event_code();
     let reset = code.reset_code();
     [
-        0, 44, b'v', subscription, t0, t1, t2, t3, n0, n1, n2, n3, 0, 0, 0, 0, 0, 0, 0, 0, 0, 0, 0, 0, 0, 0, 0, 0, 0,
-        0, 0, 0, s0, s1, s2, s3, s4, s5, s6, s7, 0, 0, event, reset,
+        0,
+        44,
+        b'v',
+        subscription,
+        t0,
+        t1,
+        t2,
+        t3,
+        n0,
+        n1,
+        n2,
+        n3,
+        0,
+        0,
+        0,
+        0,
+        0,
+        0,
+        0,
+        0,
+        0,
+        0,
+        0,
+        0,
+        0,
+        0,
+        0,
+        0,
+        0,
+        0,
+        0,
+        0,
+        s0,
+        s1,
+        s2,
+        s3,
+        s4,
+        s5,
+        s6,
+        s7,
+        0,
+        0,
+        event,
+        reset,
     ]
 }
 
@@ -113,9 +268,11 @@ fn event_bytes(event: &EventFields, subscription: u8) -> [u8; 44]
 {
     let stamp = event.stamp;
     match event.form {
-        EventForm::Numbered { number, symbol, code } => {
-            coded_event_bytes(stamp, number, symbol, EventCode::Series(code), subscription)
-        }
+        EventForm::Numbered {
+            number,
+            symbol,
+            code,
+        } => { coded_event_bytes(stamp, number, symbol, EventCode::Series(code), subscription) }
         EventForm::Underlying(code) => {
             coded_event_bytes(stamp, 0, [0; 8], EventCode::Underlying(code), subscription)
         }
@@ -134,7 +291,11 @@ pub fn write_quote(fields: &QuoteFields, subscription: u8, out: &mut [u8]) -> Re
 }
 
 // Writes an imbalance of 60 bytes. Refusals: 5 at 0 for a number, a symbol or a time that cannot be, then 9.
-pub fn write_imbalance(fields: &ImbalanceFields, subscription: u8, out: &mut [u8]) -> Result<usize, Refusal>
+pub fn write_imbalance(
+    fields: &ImbalanceFields,
+    subscription: u8,
+    out: &mut [u8],
+) -> Result<usize, Refusal>
     ensures { λ r. ⌜ Wrote subscription (imbalance (now (fields .entry))) (now (out .entry)) (now (out .exit)) (answered (λ n. n) r) ⌝ }
 {
     if !is_writable_imbalance(fields) {

@@ -6,9 +6,9 @@ ghost use lib.ListN.{length};
 ghost use Rattle.codes.specs.Refusals.{answered, refusalOf};
 ghost use Rattle.encode.specs.Packing.{packetHeader, messagesFault, WrotePacket, WroteHeartbeat};
 ghost use Rattle.encode.specs.Writing.{putAnswer, put};
+use crate::message::put_front;
 use codes::packet::PacketType;
 use codes::refusal::Refusal;
-use crate::message::put_front;
 use feed::numbers::LAST_NUMBER;
 use feed::numbers::in_range;
 use feed::packet::HEADER_SIZE;
@@ -57,7 +57,12 @@ fn put_both(header: &[u8; 8], messages: &[u8], out: &mut [u8]) -> Result<usize, 
 
 // Writes an M packet over joined messages. Refusals: 1 where it would be longer than 8,192 bytes, 4 for its number,
 // 5 at the offset in the packet of a message that is broken (8 where there is none), then 9.
-pub fn write_packet(messages: &[u8], number: u32, subscription: u8, out: &mut [u8]) -> Result<usize, Refusal>
+pub fn write_packet(
+    messages: &[u8],
+    number: u32,
+    subscription: u8,
+    out: &mut [u8],
+) -> Result<usize, Refusal>
     ensures { λ r. ⌜ WrotePacket subscription number (now (messages .entry)) (now (out .entry)) (now (out .exit)) (answered (λ n. n) r) ⌝ }
 {
     if messages.len() > LONGEST_PACKET - HEADER_SIZE {

@@ -2,25 +2,24 @@
 use mathlib.Core.Path.{_≡_, refl, sym, ap, subst, _∙_}
 use mathlib.Core.Bool.{Bool, true, false, cond, _&&_}
 use mathlib.Core.List.{List, [], _∷_, _++_}
-use mathlib.Core.Logic.{_↔_}
 use Prim.Native.Nat.{ℕ, _+_, _≤_, _<_}
 use native.Mathlib.Omega.{arith}
-use lib.Dec.{eqb, leb, ltb}
-use lib.ListN.{length, drop, take, length-drop, length-append}
+use lib.Dec.{eqb, leb}
+use lib.ListN.{length, drop, length-drop, length-append}
 use Rattle.std.specs.declared.option.Option.{Option}
 use Rattle.std.specs.declared.option.Option.the-variants.{Some, None}
 use Rattle.std.specs.declared.result.Result.{Result}
 use Rattle.std.specs.declared.result.Result.the-variants.{Ok, Err}
 use Rattle.std.proofs.shelf.Lists.{drop-at}
 use Rattle.std.proofs.shelf.Tests.{cond-true, leb-true, ltb-true, eqb-true, le-leb, lt-ltb, eq-eqb, and-parts, and-from}
-use Rattle.feed.specs.Agreement.{ReadPacket, PacketsAgree, HeartbeatsAgree}
+use Rattle.feed.specs.Agreement.{PacketsAgree, HeartbeatsAgree}
 use Rattle.codes.specs.Codes.{coded, packetCode, packetTypes}
 use Rattle.feed.specs.Content.{Content, size}
-use Rattle.feed.specs.Items.{Item, good, refused, itemThen, items, goods}
-use Rattle.feed.specs.Layout.{Number, LaidMessage, Begins, LaidMessages, none, more, PacketHeader, LaidPacket, LaidHeartbeat}
+use Rattle.feed.specs.Items.{good, itemThen, items, goods}
+use Rattle.feed.specs.Layout.{Begins, LaidMessages, none, more, PacketHeader}
 use Rattle.feed.specs.Packets.{goodLength, goodNumber, goodBody, headed, numbered, bodied, headerVerdict, packetVerdict}
 use Rattle.codes.specs.Refusals.{Returned, alone, placed}
-use Rattle.feed.specs.Verdict.{verdict, inRange}
+use Rattle.feed.specs.Verdict.{verdict}
 use Rattle.feed.specs.Wire.{byte, be16, be32}
 use Rattle.feed.specs.declared.packet.Header.{Header}
 use Rattle.codes.specs.declared.packet.PacketType.{PacketType}
@@ -98,15 +97,17 @@ module _ (subscription : ℕ) (bytes : List ℕ) (kind : PacketType) (number : �
           let same : k ≡ kind = ap (λ h. h .kind) h in
           let field : be32 bytes 4 ≡ number = ap (λ h. h .number) h in
           let a = and-parts (leb 8 (length bytes) && leb (length bytes) 8192) (eqb (be16 bytes 0) (length bytes)) l in
-          let b = and-parts (leb 8 (length bytes)) (leb (length bytes) 8192) (a .0) in
-          (record {
-            shortest = leb-true _ _ (b .0);
-            longest = leb-true _ _ (b .1);
-            length-field = eqb-true _ _ (a .1);
-            type-field = coded-is packetCode packetTypes (byte bytes 2) k t ∙ ap packetCode same;
-            subscription-field = eqb-true _ _ s;
-            number-field = field;
-          }, ap (λ k. goodNumber k number) (sym same) ∙ ap (goodNumber k) (sym field) ∙ n)
+          let b = and-parts (leb 8 (length bytes)) (leb (length bytes) 8192) (a .0) in (
+            record {
+              shortest = leb-true _ _ (b .0);
+              longest = leb-true _ _ (b .1);
+              length-field = eqb-true _ _ (a .1);
+              type-field = coded-is packetCode packetTypes (byte bytes 2) k t ∙ ap packetCode same;
+              subscription-field = eqb-true _ _ s;
+              number-field = field;
+            },
+            ap (λ k. goodNumber k number) (sym same) ∙ ap (goodNumber k) (sym field) ∙ n,
+          )
 
       by-length : (l s : Bool) (o : Option PacketType) → goodLength bytes ≡ l → eqb (byte bytes 3) subscription ≡ s → coded packetCode packetTypes (byte bytes 2) ≡ o → cond l (cond s (numbered subscription (be32 bytes 4) o) (Err (alone 2))) (Err (alone 1)) ≡ Ok (headed kind subscription number) → PacketHeader (packetCode kind) subscription number bytes × (goodNumber kind number ≡ true)
       by-length true true (Some k) l s t e = by-number k (goodNumber k (be32 bytes 4)) refl l s t e
@@ -137,7 +138,7 @@ module _ (subscription : ℕ) (bytes : List ℕ) (kind : PacketType) (number : �
 pub packets-agree : (subscription : ℕ) (bytes : List ℕ) → PacketsAgree subscription bytes (packetVerdict subscription bytes)
 packets-agree subscription bytes number contents = (
   λ r. let h = packet-laid subscription bytes Messages number (r .0) in
-    record { header = h .0; number-good = number-from number (h .1); some = some contents (r .1) (ltb-true 8 (length bytes) (h .2)); messages = items-laid subscription 8 contents (drop 8 bytes) (r .1) },
+      record { header = h .0; number-good = number-from number (h .1); some = some contents (r .1) (ltb-true 8 (length bytes) (h .2)); messages = items-laid subscription 8 contents (drop 8 bytes) (r .1) },
   λ l. (laid-packet subscription bytes Messages number (l .header) (number-passes number (l .number-good)) (let rest = some-bytes (l .messages) (l .some) in lt-ltb 8 (length bytes) (omega (arith, length-drop 8 bytes))), laid-items subscription 8 (l .messages)),
 )
   where
@@ -148,7 +149,7 @@ packets-agree subscription bytes number contents = (
 pub heartbeats-agree : (subscription : ℕ) (bytes : List ℕ) → HeartbeatsAgree subscription bytes (packetVerdict subscription bytes)
 heartbeats-agree subscription bytes number = (
   λ r. let h = packet-laid subscription bytes Heartbeat number r in
-    record { header = h .0; all = eqb-true (length bytes) 8 (h .2); high = leb-true number 4294967294 (h .1) },
+      record { header = h .0; all = eqb-true (length bytes) 8 (h .2); high = leb-true number 4294967294 (h .1) },
   λ l. laid-packet subscription bytes Heartbeat number (l .header) (le-leb number 4294967294 (l .high)) (eq-eqb (length bytes) 8 (l .all)),
 )
 

@@ -1,22 +1,20 @@
 -- Bytes that are laid out as a message are read as that message.
-use mathlib.Core.Path.{_≡_, refl, sym, ap, subst, _∙_}
-use mathlib.Core.Bool.{Bool, true, false, cond, _&&_}
-use mathlib.Core.List.{List, [], _∷_, _++_}
-use Prim.Native.Nat.{ℕ, _+_, _*_, _≤_, _<_}
+use mathlib.Core.Path.{_≡_, sym, ap, _∙_}
+use mathlib.Core.Bool.{Bool, true}
+use mathlib.Core.List.{List, _++_}
+use Prim.Native.Nat.{ℕ, _+_, _<_}
 use native.Mathlib.Omega.{arith}
-use lib.Dec.{eqb, leb}
-use lib.ListN.{length, drop, take, getD, length-append}
+use lib.ListN.{length-append}
 use Rattle.std.specs.Options.{isSome, valueOr}
-use Rattle.std.specs.declared.option.Option.{Option}
-use Rattle.std.specs.declared.option.Option.the-variants.{Some, None}
+use Rattle.std.specs.declared.option.Option.the-variants.{Some}
 use Rattle.std.proofs.shelf.Lists.{take-at, getD-append-left}
 use Rattle.std.proofs.shelf.Tests.{le-leb, and-from}
 use Rattle.codes.specs.Codes.{coded, sides, sideCode, levels, levelNumber, auctions, auctionCode, eventCode, eventByte, resetByte}
-use Rattle.feed.specs.Content.{Content, quote, imbalance, event, size}
-use Rattle.feed.specs.Layout.{Number, Symbol, MessageHeader, Named, LaidQuote, LaidImbalance, LaidForm, LaidEvent, LaidMessage, Begins}
+use Rattle.feed.specs.Content.{Content, quote, imbalance, event}
+use Rattle.feed.specs.Layout.{Number, MessageHeader, Named, LaidQuote, LaidImbalance, LaidForm, LaidEvent, LaidMessage}
 use Rattle.feed.specs.Symbols.{wellFormed}
 use Rattle.feed.specs.Verdict.{message, when, inRange, named, goodQuote, goodImbalance, goodEvent, goodForm, formOf, quoteFields, imbalanceFields, eventFields, quoteIn, imbalanceIn, eventIn}
-use Rattle.feed.specs.Wire.{byte, be16, be32, part}
+use Rattle.feed.specs.Wire.{byte, part}
 use Rattle.codes.specs.declared.quote.Side.{Side}
 use Rattle.codes.specs.declared.quote.Side.the-variants as side
 use Rattle.codes.specs.declared.quote.Level.{Level}

@@ -5,3 +5,4 @@ pub mod Readings
 pub mod Judgements
 pub mod Steps
 pub mod Agreements
+pub mod Counts

@@ -1,19 +1,19 @@
 -- What is read as a message is laid out as that message.
-use mathlib.Core.Path.{_≡_, refl, sym, ap, subst, _∙_}
+use mathlib.Core.Path.{_≡_, refl, sym, subst, _∙_}
 use mathlib.Core.Bool.{Bool, true, false, cond, _&&_}
-use mathlib.Core.List.{List, [], _∷_, _++_}
-use Prim.Native.Nat.{ℕ, _+_, _*_, _≤_, _<_}
+use mathlib.Core.List.{List}
+use Prim.Native.Nat.{ℕ, _≤_, _<_}
 use native.Mathlib.Omega.{arith}
 use lib.Dec.{eqb, leb}
-use lib.ListN.{length, drop, take, getD, take-append-drop}
-use Rattle.std.specs.Options.{isSome, valueOr}
+use lib.ListN.{length, drop, take, take-append-drop}
+use Rattle.std.specs.Options.{isSome}
 use Rattle.std.specs.declared.option.Option.{Option}
 use Rattle.std.specs.declared.option.Option.the-variants.{Some, None}
-use Rattle.std.proofs.shelf.Lists.{length-take-le, length-drop, length-take, getD-take}
+use Rattle.std.proofs.shelf.Lists.{length-take-le, length-drop, getD-take}
 use Rattle.std.proofs.shelf.Tests.{leb-true, eqb-true, and-parts}
-use Rattle.codes.specs.Codes.{coded, sides, sideCode, levels, levelNumber, auctions, auctionCode, eventCode, eventByte, resetByte}
-use Rattle.feed.specs.Content.{Content, quote, imbalance, event, size}
-use Rattle.feed.specs.Layout.{Number, Symbol, MessageHeader, Named, LaidQuote, LaidImbalance, LaidForm, LaidEvent, LaidMessage, Begins}
+use Rattle.codes.specs.Codes.{sides, sideCode, levels, levelNumber, auctions, auctionCode, eventCode}
+use Rattle.feed.specs.Content.{Content, quote, imbalance, event}
+use Rattle.feed.specs.Layout.{Number, MessageHeader, Named, LaidQuote, LaidImbalance, LaidForm, LaidEvent, LaidMessage, Begins}
 use Rattle.feed.specs.Symbols.{wellFormed}
 use Rattle.feed.specs.Verdict.{message, when, inRange, starts, named, sideAt, levelAt, auctionAt, goodQuote, goodImbalance, goodEvent, goodForm, formOf, quoteFields, imbalanceFields, eventFields, quoteIn, imbalanceIn, eventIn}
 use Rattle.feed.specs.Wire.{byte, be16, be32, part}

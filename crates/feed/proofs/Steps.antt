@@ -1,17 +1,16 @@
 -- How the messages of a packet follow one another.
-use mathlib.Core.Path.{_≡_, refl, sym, ap, subst, _∙_}
-use mathlib.Core.Bool.{Bool, true, false, cond}
-use mathlib.Core.List.{List, [], _∷_, _++_}
+use mathlib.Core.Path.{_≡_, refl, sym, ap, _∙_}
+use mathlib.Core.List.{List, [], _∷_}
 use Prim.Native.Nat.{ℕ, zero, suc, _+_, _-_, _≤_, _<_}
 use native.Mathlib.Omega.{arith}
-use lib.ListN.{length, drop, take, length-drop, length-append}
+use lib.ListN.{length, drop, length-drop, length-append}
 use Rattle.std.proofs.shelf.Lists.{drop-drop}
 use Rattle.std.specs.declared.result.Result.{Result}
 use Rattle.std.specs.declared.result.Result.the-variants.{Ok, Err}
 use Rattle.feed.specs.Content.{Content, quote, imbalance, event, size}
 use Rattle.feed.specs.Items.{Item, good, refused, itemThen, atMost, items}
-use Rattle.feed.specs.Layout.{LaidMessage, Begins}
-use Rattle.codes.specs.Refusals.{Returned, placed}
+use Rattle.feed.specs.Layout.{LaidMessage}
+use Rattle.codes.specs.Refusals.{Returned}
 use Rattle.feed.specs.Verdict.{verdict}
 use Rattle.feed.proofs.Judgements.{verdict-laid}
 
@@ -69,16 +68,16 @@ items-refused subscription offset bytes e h f = items-then subscription offset b
 
 -- the same at an offset of a packet
 module _ (subscription : ℕ) (packet : List ℕ) (at : ℕ) (inside : at < length packet) where
-  pub next-good : (c : Content) (n : ℕ) → verdict subscription at (drop at packet) ≡ Ok c → n ≡ size c → (at + n ≤ length packet) × (items subscription at (drop at packet) ≡ good at c ∷ items subscription (at + n) (drop (at + n) packet))
+  pub next-good : (c : Content) (n : ℕ) → Ok c ≡ verdict subscription at (drop at packet) → n ≡ size c → (at + n ≤ length packet) × (items subscription at (drop at packet) ≡ good at c ∷ items subscription (at + n) (drop (at + n) packet))
   next-good c n read is =
       let long = length-drop at packet in
-      let fits = size-fits subscription at (drop at packet) c read in
-      let first = items-good subscription at (drop at packet) c (omega arith) read in
+      let fits = size-fits subscription at (drop at packet) c (sym read) in
+      let first = items-good subscription at (drop at packet) c (omega arith) (sym read) in
       let rest = drop-drop (size c) at packet in
       (omega arith, cc)
 
-  pub next-refused : (e : Returned) → verdict subscription at (drop at packet) ≡ Err e → items subscription at (drop at packet) ≡ refused e ∷ []
-  next-refused e read = items-refused subscription at (drop at packet) e (omega (arith, length-drop at packet)) read
+  pub next-refused : (e : Returned) → Err e ≡ verdict subscription at (drop at packet) → items subscription at (drop at packet) ≡ refused e ∷ []
+  next-refused e read = items-refused subscription at (drop at packet) e (omega (arith, length-drop at packet)) (sym read)
 
 pub next-none : (subscription : ℕ) (packet : List ℕ) (at : ℕ) → length packet ≤ at → items subscription at (drop at packet) ≡ []
 next-none subscription packet at h = items-none subscription at (drop at packet) (omega (arith, length-drop at packet))

@@ -1,7 +1,7 @@
 -- How the tests of a symbol step along its field.
 use mathlib.Core.Path.{_≡_, refl, sym, ap, _∙_}
 use mathlib.Core.Bool.{Bool, true, false, cond, _&&_}
-use mathlib.Core.Logic.{⊎-elim}
+use mathlib.Core.Logic.{⊎-elim, _↔_}
 use mathlib.Core.List.{List, [], _∷_, _++_}
 use Prim.Native.Nat.{ℕ, zero, suc, _+_, _-_, _<_, _≤_}
 use native.Mathlib.Omega.{arith}
@@ -101,3 +101,7 @@ symbol-from (b ∷ bs) eight h =
       some = omega arith;
       printable = more-printable b (s .name) (p .0) (s .printable);
     }
+
+-- an answer that is the test's says whether the field is a symbol
+pub symbol-law : (field : List ℕ) (r : Bool) → r ≡ wellFormed field → length field ≡ 8 → (r ≡ true) ↔ Symbol field
+symbol-law field r test eight = (λ e. symbol-from field eight (sym test ∙ e), λ s. test ∙ symbol-passes field s)

@@ -1,5 +1,4 @@
 -- What a message says, whatever bytes it came in.
-use mathlib.Core.Path.{_≡_}
 use Prim.Native.Nat.{ℕ}
 use Rattle.feed.specs.declared.fields.QuoteFields.{QuoteFields}
 use Rattle.feed.specs.declared.fields.ImbalanceFields.{ImbalanceFields}

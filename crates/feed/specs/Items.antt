@@ -32,3 +32,13 @@ items subscription offset bytes = atMost (length bytes) subscription offset byte
 abbrev pub goods : ℕ → List Content → List Item
 goods offset [] = []
 goods offset (c ∷ cs) = good offset c ∷ goods (offset + size c) cs
+
+-- how many messages there are, or the first refusal
+abbrev pub oneMore : Result ℕ Returned → Result ℕ Returned
+oneMore (Ok n) = Ok (suc n)
+oneMore (Err e) = Err e
+
+abbrev pub counted : List Item → Result ℕ Returned
+counted [] = Ok 0
+counted (good offset c ∷ is) = oneMore (counted is)
+counted (refused e ∷ is) = Err e

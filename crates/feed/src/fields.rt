@@ -1,10 +1,10 @@
 // What each message says, field by field: what is read from a message, and what one is written from.
-use codes::auction::Auction;
-use codes::quote::Level;
-use codes::event::SeriesEvent;
-use codes::quote::Side;
-use codes::event::UnderlyingEvent;
 use crate::symbol::Symbol;
+use codes::auction::Auction;
+use codes::event::SeriesEvent;
+use codes::event::UnderlyingEvent;
+use codes::quote::Level;
+use codes::quote::Side;
 
 // One price level of one side changes: the delete level goes, then this one comes in as the insert level.
 #[derive(Clone, Copy)]

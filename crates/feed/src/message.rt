@@ -7,10 +7,6 @@ ghost use Prim.Native.Nat.{_≤_};
 ghost use Rattle.feed.specs.Content.{size};
 ghost use Rattle.feed.specs.Messages.{content, ownBytes};
 ghost use Rattle.feed.specs.Verdict.{quoteFields, imbalanceFields, eventFields};
-use codes::auction::Auction;
-use codes::event::EventCode;
-use codes::quote::Level;
-use codes::quote::Side;
 use crate::fields::EventFields;
 use crate::fields::EventForm;
 use crate::fields::ImbalanceFields;
@@ -19,6 +15,10 @@ use crate::numbers::read_u16;
 use crate::numbers::read_u32;
 use crate::symbol::Symbol;
 use crate::symbol::symbol_at;
+use codes::auction::Auction;
+use codes::event::EventCode;
+use codes::quote::Level;
+use codes::quote::Side;
 
 #[derive(Clone, Copy)]
 pub struct Quote<'a> {

@@ -5,7 +5,7 @@ ghost use lib.ListN.{length, drop};
 ghost use Rattle.std.specs.Vec.{made};
 ghost use Rattle.codes.specs.Refusals.{answered};
 ghost use Rattle.feed.specs.Agreement.{PacketsAgree, HeartbeatsAgree};
-ghost use Rattle.feed.specs.Items.{items};
+ghost use Rattle.feed.specs.Items.{items, counted};
 ghost use Rattle.feed.specs.Packets.{goodLength, goodNumber, goodBody, headerVerdict, packetVerdict};
 ghost use Rattle.feed.specs.Pending.{pending, Next};
 use crate::message::Message;
@@ -18,6 +18,7 @@ use codes::packet::PacketType;
 use codes::refusal::Refusal;
 
 pub const HEADER_SIZE: usize = 8;
+
 pub const LONGEST_PACKET: usize = 8_192;
 
 #[derive(Clone, Copy)]
@@ -106,6 +107,18 @@ impl<'a> Packet<'a> {
         ensures { λ r. ⌜ r ≡ self .entry .header ⌝ }
     {
         self.header
+    }
+
+    // How many messages there are, or the refusal of the first broken one.
+    pub fn count(self) -> Result<usize, Refusal>
+        ensures { λ r. ⌜ answered (λ n. n) r ≡ counted (items (self .entry .header .subscription) 8 (drop 8 (now (self .entry .bytes)))) ⌝ }
+    {
+        let mut count = 0;
+        for item in self.messages() {
+            item?;
+            count += 1;
+        }
+        Ok(count)
     }
 
     // The messages with their offsets in the packet; a broken one is the last item, as its refusal.

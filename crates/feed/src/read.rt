@@ -12,10 +12,6 @@ ghost use Rattle.feed.specs.Layout.{Begins};
 ghost use Rattle.feed.specs.Messages.{content, ownBytes};
 ghost use Rattle.codes.specs.Refusals.{answered};
 ghost use Rattle.feed.specs.Verdict.{named, goodQuote, goodImbalance, goodEvent, quoteIn, imbalanceIn, eventIn, message, verdict};
-use codes::auction::Auction;
-use codes::event::EventCode;
-use codes::quote::Level;
-use codes::quote::Side;
 use crate::message::Event;
 use crate::message::Imbalance;
 use crate::message::Message;
@@ -23,8 +19,12 @@ use crate::message::Quote;
 use crate::numbers::in_range;
 use crate::numbers::read_u16;
 use crate::numbers::read_u32;
-use codes::refusal::Refusal;
 use crate::symbol::is_well_formed;
+use codes::auction::Auction;
+use codes::event::EventCode;
+use codes::quote::Level;
+use codes::quote::Side;
+use codes::refusal::Refusal;
 
 // Whether the number is in its range and the symbol well formed.
 fn is_named(own: &[u8]) -> bool

@@ -2,6 +2,9 @@
 ghost use mathlib.Core.Path.{_≡_};
 ghost use Prim.Native.Nat.{_≤_};
 ghost use lib.ListN.{length};
+ghost use mathlib.Core.Bool.{true};
+ghost use mathlib.Core.Logic.{_↔_};
+ghost use Rattle.feed.specs.Layout.{Symbol as SymbolField};
 ghost use Rattle.feed.specs.Wire.{part};
 ghost use Rattle.feed.specs.Symbols.{printable, padded, wellFormed};
 
@@ -29,7 +32,8 @@ fn is_padded(field: &[u8]) -> bool
 
 // Whether the bytes of a symbol's field are a symbol.
 pub fn is_well_formed(field: &[u8]) -> bool
-    ensures { λ r. ⌜ r ≡ wellFormed (now (field .entry)) ⌝ }
+    ensures test { λ r. ⌜ r ≡ wellFormed (now (field .entry)) ⌝ }
+    ensures symbol { λ r. ⌜ (length (now (field .entry)) ≡ 8 → (r ≡ true) ↔ SymbolField (now (field .entry))) ⌝ }
 {
     match field {
         [first, rest @ ..] => is_printable(*first) && is_padded(rest),

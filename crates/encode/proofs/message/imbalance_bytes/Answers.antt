@@ -1,5 +1,5 @@
 use mathlib.Core.Path.{sym, ap}
-use mathlib.Core.List.{List, _++_, _∷_, []}
+use mathlib.Core.List.{List, _++_, _∷_}
 use Prim.Native.Nat.{ℕ}
 use native.Mathlib.Omega.{arith}
 use Rattle.codes.specs.Codes.{auctionCode}

@@ -1,4 +1,4 @@
-use mathlib.Core.Path.{_≡_, sym, ap, _∙_}
+use mathlib.Core.Path.{sym, _∙_}
 use native.Mathlib.Omega.{arith}
 use lib.ListN.{length}
 use Rattle.std.proofs.shelf.Lists.{take-rest}
@@ -12,7 +12,7 @@ use Rattle.encode.proofs.packet.check_messages.Needs as need
 pub loop-at-again : need.loop-at-again
 loop-at-again c =
     let read = rw take-rest at (c .in-Continue-message .ensures tt .verdict) in
-    let n = check-good (c .args .subscription) (c .args .messages .now) (c .loop-at .at) (c .loop-at-test .taken) (content (c .in-Continue-message .message)) (c .size-at .result) (sym read) (c .size-at .ensures .value) in
+    let n = check-good (c .args .subscription) (c .args .messages .now) (c .loop-at .at) (c .loop-at-test .taken) (content (c .in-Continue-message .message)) (c .size-at .result) read (c .size-at .ensures .value) in
     (n .0, sym (n .1) ∙ c .loop-at .inv .1)
 
 pub returns-in-Break-message : need.returns-in-Break-message
@@ -21,7 +21,7 @@ returns-in-Break-message c =
     let sub = c .args .subscription in
     let messages = c .args .messages .now in
     let read = rw take-rest at (c .in-Break-message .ensures tt .verdict) in
-    rw (p .1, p .2) (sym (fault-some sub messages (omega arith) ∙ sym (c .loop-at .inv .1) ∙ check-refused sub messages (c .loop-at .at) (c .loop-at-test .taken) (returned (c .in-Break-message .field-0 .0)) (sym read)))
+    rw (p .1, p .2) (sym (fault-some sub messages (omega arith) ∙ sym (c .loop-at .inv .1) ∙ check-refused sub messages (c .loop-at .at) (c .loop-at-test .taken) (returned (c .in-Break-message .field-0 .0)) read))
 
 pub returns : need.returns
 returns c =

@@ -22,7 +22,7 @@ unfolding pending
 returns-in-Ok c =
     let s = c .args .self .now in
     let read = rw take-rest at (c .in-Ok .ensures tt .verdict) in
-    let n = next-good (s .subscription) (s .packet .now) (s .at) (c .if-at-packet .left) (content (c .in-Ok .message)) (c .size .result) (sym read) (c .size .ensures .value) in
+    let n = next-good (s .subscription) (s .packet .now) (s .at) (c .if-at-packet .left) (content (c .in-Ok .message)) (c .size .result) read (c .size .ensures .value) in
     let own = rw take-rest at (c .in-Ok .ensures tt .own) in
     record { steps = (n .1, own, refl, refl); goes = search needs }
 
@@ -33,4 +33,4 @@ returns-in-Err c =
     let read = rw take-rest at (c .in-Err .ensures tt .verdict) in
     let last = next-none (s .subscription) (s .packet .now) (length (s .packet .now)) (omega arith) in
     let r = returned (c .in-Err .refusal) in
-    record { steps = (next-refused (s .subscription) (s .packet .now) (s .at) (c .if-at-packet .left) r (sym read) ∙ ap (λ l. refused r ∷ l) (sym last), tt, refl, refl); goes = search needs }
+    record { steps = (next-refused (s .subscription) (s .packet .now) (s .at) (c .if-at-packet .left) r read ∙ ap (λ l. refused r ∷ l) (sym last), tt, refl, refl); goes = search needs }
