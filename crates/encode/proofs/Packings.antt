@@ -1,12 +1,10 @@
 -- Joined messages checked one after the other, and put into a buffer behind a header.
 use mathlib.Core.Path.{_≡_, refl, sym, ap, _∙_}
-use mathlib.Core.Bool.{true, false}
 use mathlib.Core.List.{List, [], _∷_, _++_, append-assoc}
 use Prim.Native.Nat.{ℕ, _+_, _-_, _≤_, _<_}
 use native.Mathlib.Omega.{arith}
 use borrow.Rule.Slice.PartMut.{putMid}
-use lib.Dec.{leb}
-use lib.ListN.{length, drop, length-append, length-drop}
+use lib.ListN.{length, drop, length-drop}
 use Rattle.std.specs.declared.option.Option.the-variants.{Some, None}
 use Rattle.std.specs.declared.result.Result.the-variants.{Ok, Err}
 use Rattle.std.proofs.shelf.Lists.{take-at, drop-at, drop-drop}
@@ -45,32 +43,27 @@ module _ (subscription : ℕ) (messages : List ℕ) (at : ℕ) where
   pub check-end : length messages ≤ at → firstRefused (items subscription (8 + at) (drop at messages)) ≡ None
   check-end past = ap firstRefused (items-none subscription (8 + at) (drop at messages) (omega (arith, length-drop at messages)))
 
--- two parts put one after the other
-module _ (header messages out : List ℕ) (eight : length header ≡ 8) where
-  both : length (header ++ messages) ≡ 8 + length messages
-  both = length-append header messages ∙ ap (λ n. n + length messages) eight
+pub same-parts : (a b c d e f : List ℕ) → a ≡ d → b ≡ e → c ≡ f → a ++ b ++ c ≡ d ++ e ++ f
+same-parts a b c d e f p q r = cc
 
-  short : length out < 8 + length messages → leb (length (header ++ messages)) (length out) ≡ false
-  short h = let n = both in lt-leb (length (header ++ messages)) (length out) (omega arith)
+-- parts put one after the other
+pub put-next : (front part out : List ℕ) (a e : ℕ) → length front ≡ a → e ≡ a + length part → putMid a (e - a) (front ++ drop a out) part ≡ front ++ part ++ drop e out
+put-next front part out a e is end =
+    let place : a + (e - a) ≡ e = omega arith in
+    ap (λ l. l ++ (part ++ drop (e - a) (drop a (front ++ drop a out)))) (take-at front (drop a out) a is)
+    ∙ ap (λ l. front ++ (part ++ drop (e - a) l)) (drop-at front (drop a out) a is)
+    ∙ ap (λ l. front ++ (part ++ l)) (drop-drop (e - a) a out ∙ ap (λ k. drop k out) place)
+    ∙ sym (append-assoc front part (drop e out))
 
-  whole : 8 + length messages ≤ length out → leb (length (header ++ messages)) (length out) ≡ true
-  whole h = let n = both in le-leb (length (header ++ messages)) (length out) (omega arith)
+module _ (own out : List ℕ) (n : ℕ) (is : length own ≡ n) where
+  pub answer-short : length out < n → Err (alone 9) ≡ putAnswer (length own) out
+  answer-short h = sym (cond-false _ _ _ (lt-leb (length own) (length out) (omega arith)))
 
-  pub answer-short : length out < 8 + length messages → Err (alone 9) ≡ putAnswer (length (header ++ messages)) out
-  answer-short h = sym (cond-false _ _ _ (short h))
+  pub out-short : length out < n → out ≡ put own out
+  out-short h = sym (cond-false _ _ _ (lt-leb (length own) (length out) (omega arith)))
 
-  pub out-short : length out < 8 + length messages → out ≡ put (header ++ messages) out
-  out-short h = sym (cond-false _ _ _ (short h))
+  pub answer-whole : n ≤ length out → Ok n ≡ putAnswer (length own) out
+  answer-whole h = sym (cond-true _ _ _ (le-leb (length own) (length out) (omega arith)) ∙ ap Ok is)
 
-  pub answer-whole : 8 + length messages ≤ length out → Ok (8 + length messages) ≡ putAnswer (length (header ++ messages)) out
-  answer-whole h = sym (cond-true _ _ _ (whole h) ∙ ap Ok both)
-
-  pub out-whole : 8 + length messages ≤ length out → putMid 8 (8 + length messages - 8) (header ++ drop 8 out) messages ≡ put (header ++ messages) out
-  out-whole room =
-      let n = 8 + length messages - 8 in
-      let place : 8 + n ≡ length (header ++ messages) = omega (arith, both) in
-      ap (λ l. l ++ (messages ++ drop n (drop 8 (header ++ drop 8 out)))) (take-at header (drop 8 out) 8 eight)
-      ∙ ap (λ l. header ++ (messages ++ drop n l)) (drop-at header (drop 8 out) 8 eight)
-      ∙ ap (λ l. header ++ (messages ++ l)) (drop-drop n 8 out ∙ ap (λ k. drop k out) place)
-      ∙ sym (append-assoc header messages (drop (length (header ++ messages)) out))
-      ∙ sym (cond-true _ _ _ (whole room))
+  pub out-whole : n ≤ length out → own ++ drop n out ≡ put own out
+  out-whole h = ap (λ k. own ++ drop k out) (sym is) ∙ sym (cond-true _ _ _ (le-leb (length own) (length out) (omega arith)))

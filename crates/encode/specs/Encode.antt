@@ -26,37 +26,42 @@ bytes32 n = (n / 16777216 % 256) ∷ (n / 65536 % 256) ∷ (n / 256 % 256) ∷ (
 abbrev pub nulls : ℕ → List ℕ
 nulls n = replicate n 0
 
-abbrev pub headerBytes : (len type subscription stamp : ℕ) → List ℕ
-headerBytes len type subscription stamp = bytes16 len ++ (type ∷ subscription ∷ bytes32 stamp)
+-- the first eight bytes of a message, with its stamp, and of a packet, with its number
+abbrev pub headerBytes : (len type subscription last : ℕ) → List ℕ
+headerBytes len type subscription last = bytes16 len ++ (type ∷ subscription ∷ bytes32 last)
 
 -- number and symbol, up to the field at 40
 abbrev pub namedBytes : ℕ → List ℕ → List ℕ
 namedBytes number symbol = bytes32 number ++ nulls 20 ++ symbol
 
+abbrev pub quoteTail : QuoteFields → List ℕ
+quoteTail q = 0 ∷ sideCode (q .side) ∷ levelNumber (q .insert) ∷ levelNumber (q .delete) ∷ (bytes32 (q .contracts) ++ bytes32 (q .price))
+
 abbrev pub quoteBytes : ℕ → QuoteFields → List ℕ
-quoteBytes subscription q =
-    headerBytes 52 113 subscription (q .stamp) ++ namedBytes (q .number) (q .symbol)
-    ++ (0 ∷ sideCode (q .side) ∷ levelNumber (q .insert) ∷ levelNumber (q .delete) ∷ [])
-    ++ bytes32 (q .contracts) ++ bytes32 (q .price)
+quoteBytes subscription q = headerBytes 52 113 subscription (q .stamp) ++ namedBytes (q .number) (q .symbol) ++ quoteTail q
+
+abbrev pub imbalanceTail : ImbalanceFields → List ℕ
+imbalanceTail i = 0 ∷ auctionCode (i .auction) ∷ (bytes16 (i .time) ++ bytes32 (i .contracts) ++ bytes32 (i .price) ++ bytes32 (i .total) ++ bytes32 (i .market))
 
 abbrev pub imbalanceBytes : ℕ → ImbalanceFields → List ℕ
-imbalanceBytes subscription i =
-    headerBytes 60 105 subscription (i .stamp) ++ namedBytes (i .number) (i .symbol)
-    ++ (0 ∷ auctionCode (i .auction) ∷ bytes16 (i .time))
-    ++ bytes32 (i .contracts) ++ bytes32 (i .price) ++ bytes32 (i .total) ++ bytes32 (i .market)
-
-abbrev pub codedEventBytes : (subscription stamp number : ℕ) → List ℕ → EventCode → List ℕ
-codedEventBytes subscription stamp number symbol code =
-    headerBytes 44 118 subscription stamp ++ namedBytes number symbol ++ (0 ∷ 0 ∷ eventByte code ∷ resetByte code ∷ [])
+imbalanceBytes subscription i = headerBytes 60 105 subscription (i .stamp) ++ namedBytes (i .number) (i .symbol) ++ imbalanceTail i
 
 -- the reset and the events of an underlying have no number and no symbol
-abbrev pub formBytes : (subscription stamp : ℕ) → EventForm → List ℕ
-formBytes subscription stamp (Numbered number symbol code) = codedEventBytes subscription stamp number symbol (both.Series code)
-formBytes subscription stamp (Underlying code) = codedEventBytes subscription stamp 0 (nulls 8) (both.Underlying code)
-formBytes subscription stamp Reset = codedEventBytes subscription stamp 0 (nulls 8) both.Reset
+abbrev pub formNamed : EventForm → List ℕ
+formNamed (Numbered number symbol code) = namedBytes number symbol
+formNamed (Underlying code) = nulls 32
+formNamed Reset = nulls 32
+
+abbrev pub formCode : EventForm → EventCode
+formCode (Numbered number symbol code) = both.Series code
+formCode (Underlying code) = both.Underlying code
+formCode Reset = both.Reset
+
+abbrev pub formTail : EventForm → List ℕ
+formTail f = 0 ∷ 0 ∷ eventByte (formCode f) ∷ resetByte (formCode f) ∷ []
 
 abbrev pub eventBytes : ℕ → EventFields → List ℕ
-eventBytes subscription e = formBytes subscription (e .stamp) (e .form)
+eventBytes subscription e = headerBytes 44 118 subscription (e .stamp) ++ formNamed (e .form) ++ formTail (e .form)
 
 unfoldable pub encoded : ℕ → Content → List ℕ
 encoded subscription (quote q) = quoteBytes subscription q

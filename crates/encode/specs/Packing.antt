@@ -19,11 +19,11 @@ use Rattle.feed.specs.Items.{Item, good, refused, items}
 use Rattle.feed.specs.Layout.{LaidMessages, LaidPacket, LaidHeartbeat}
 use Rattle.feed.specs.Packets.{headed, packetVerdict}
 use Rattle.feed.specs.Verdict.{inRange}
-use Rattle.encode.specs.Encode.{bytes16, bytes32}
+use Rattle.encode.specs.Encode.{headerBytes}
 use Rattle.encode.specs.Writing.{putAnswer, put}
 
 abbrev pub packetHeader : PacketType → (len subscription number : ℕ) → List ℕ
-packetHeader kind len subscription number = bytes16 len ++ (packetCode kind ∷ subscription ∷ bytes32 number)
+packetHeader kind len subscription number = headerBytes len (packetCode kind) subscription number
 
 -- a header before joined messages
 abbrev pub packetBytes : (subscription number : ℕ) → List ℕ → List ℕ

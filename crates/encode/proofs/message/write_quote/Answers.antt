@@ -1,6 +1,9 @@
 use mathlib.Core.Path.{sym}
+use mathlib.Core.List.{_++_}
 use Rattle.feed.specs.Content.{quote}
 use Rattle.encode.specs.Encode.{encoded, writable}
+use Rattle.encode.specs.Typed.{TypedQuote}
+use Rattle.encode.proofs.Packings.{same-parts}
 use Rattle.encode.proofs.Writes.{wrote-refused, wrote-put}
 use Rattle.encode.proofs.message.write_quote.Needs as need
 
@@ -11,4 +14,6 @@ returns-then-not-is-nameable c = wrote-refused (c .args .subscription) (quote (c
 pub returns : need.returns
 unfolding writable encoded
 returns c =
-    wrote-put (c .args .subscription) (quote (c .args .fields .now)) (c .args .out .now) (c .quote-bytes .result) _ _ (c .quote-bytes .ensures .typed) (sym (c .if-not-is-nameable .ensures tt)) (c .quote-bytes .ensures .bytes) (c .put-front .ensures .answer) (c .put-front .ensures .after)
+    let own = c .header-bytes-header .result ++ c .named-bytes-named .result ++ c .quote-tail .result in
+    let typed : TypedQuote (c .args .fields .now) = record { stamp = c .header-bytes-header .ensures .typed; number = c .named-bytes-named .ensures .typed .0; symbol = c .named-bytes-named .ensures .typed .1; contracts = c .quote-tail .ensures .contracts; price = c .quote-tail .ensures .price } in
+    wrote-put (c .args .subscription) (quote (c .args .fields .now)) (c .args .out .now) own _ _ typed (sym (c .if-not-is-nameable .ensures tt)) (same-parts _ _ _ _ _ _ (c .header-bytes-header .ensures .bytes) (c .named-bytes-named .ensures .bytes) (c .quote-tail .ensures .bytes)) (c .put-parts .ensures .answer) (c .put-parts .ensures .after)

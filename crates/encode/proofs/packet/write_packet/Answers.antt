@@ -1,11 +1,12 @@
 use mathlib.Core.Path.{sym, ap, _∙_}
-use mathlib.Core.List.{List, _++_}
-use Prim.Native.Nat.{ℕ}
+use mathlib.Core.List.{List, _++_, append-nil}
+use Prim.Native.Nat.{ℕ, _+_}
 use native.Mathlib.Omega.{arith}
 use lib.ListN.{length}
 use Rattle.std.specs.declared.option.Option.the-variants.{Some, None}
 use Rattle.std.proofs.shelf.Results.{err-from-errBy}
 use Rattle.codes.specs.Refusals.{alone, returned}
+use Rattle.encode.specs.Encode.{headerBytes}
 use Rattle.encode.specs.Writing.{putAnswer, put}
 use Rattle.encode.proofs.Packets.{packet-refused, packet-put, fault-length, fault-number, fault-messages}
 use Rattle.encode.proofs.packet.write_packet.Needs as need
@@ -33,7 +34,7 @@ returns c =
     let number = c .args .number in
     let messages = c .args .messages .now in
     let out = c .args .out .now in
-    let header = c .header-bytes-header .ensures .bytes in
+    let own = append-nil (c .header-bytes-header .result ++ messages) ∙ ap (λ (h : List ℕ). h ++ messages) (c .header-bytes-header .ensures .bytes ∙ ap (λ k. headerBytes (8 + length messages) k sub number) (c .code .ensures)) in
     packet-put sub number messages out _ _ (fault-messages sub number messages (omega arith) None (sym (c .if-not-in-range .ensures tt)) (c .in-Continue-check-messages .ensures tt))
-    (c .put-both .ensures .answer ∙ ap (λ (h : List ℕ). putAnswer (length (h ++ messages)) out) header)
-    (c .put-both .ensures .after ∙ ap (λ (h : List ℕ). put (h ++ messages) out) header)
+    (c .put-parts .ensures .answer ∙ ap (λ (l : List ℕ). putAnswer (length l) out) own)
+    (c .put-parts .ensures .after ∙ ap (λ (l : List ℕ). put l out) own)
