@@ -1,11 +1,12 @@
 -- Bytes that are laid out as a message are read as that message.
-use mathlib.Core.Path.{_≡_, sym, ap, _∙_}
+use mathlib.Core.Path.{_≡_, ap, _∙_}
 use mathlib.Core.Bool.{Bool, true}
 use mathlib.Core.List.{List, _++_}
-use Prim.Native.Nat.{ℕ, _+_, _<_}
+use Prim.Native.Nat.{ℕ, _≤_, _<_}
 use native.Mathlib.Omega.{arith}
-use lib.ListN.{length-append}
+use lib.ListN.{length, take, length-append}
 use Rattle.std.specs.Options.{isSome, valueOr}
+use Rattle.std.specs.declared.option.Option.{Option}
 use Rattle.std.specs.declared.option.Option.the-variants.{Some}
 use Rattle.std.proofs.shelf.Lists.{take-at, getD-append-left}
 use Rattle.std.proofs.shelf.Tests.{le-leb, and-from}
@@ -13,8 +14,8 @@ use Rattle.codes.specs.Codes.{coded, sides, sideCode, levels, levelNumber, auct
 use Rattle.feed.specs.Content.{Content, quote, imbalance, event}
 use Rattle.feed.specs.Layout.{Number, MessageHeader, Named, LaidQuote, LaidImbalance, LaidForm, LaidEvent, LaidMessage}
 use Rattle.feed.specs.Symbols.{wellFormed}
-use Rattle.feed.specs.Verdict.{message, when, inRange, named, goodQuote, goodImbalance, goodEvent, goodForm, formOf, quoteFields, imbalanceFields, eventFields, quoteIn, imbalanceIn, eventIn}
-use Rattle.feed.specs.Wire.{byte, part}
+use Rattle.feed.specs.Verdict.{message, cut, when, inRange, named, goodForm, formOf, quoteIn, imbalanceIn, eventIn}
+use Rattle.feed.specs.Wire.{byte, be16, part}
 use Rattle.codes.specs.declared.quote.Side.{Side}
 use Rattle.codes.specs.declared.quote.Side.the-variants as side
 use Rattle.codes.specs.declared.quote.Level.{Level}
@@ -30,7 +31,7 @@ use Rattle.feed.specs.declared.fields.EventForm.{EventForm}
 use Rattle.feed.specs.declared.fields.EventForm.the-variants.{Numbered, Underlying, Reset}
 use Rattle.codes.proofs.Cases.{side-back, level-back, auction-back, event-back}
 use Rattle.feed.proofs.Symbols.{symbol-passes}
-use Rattle.feed.proofs.Verdicts.{Front, message-quote, message-imbalance, message-event}
+use Rattle.feed.proofs.Verdicts.{message-quote, message-imbalance, message-event, cut-whole}
 
 pub number-passes : (n : ℕ) → Number n → inRange n ≡ true
 number-passes n h = and-from _ _ (le-leb 1 n (h .low)) (le-leb n 4294967294 (h .high))
@@ -60,7 +61,6 @@ same-quote : (t t′ n n′ : ℕ) (s s′ : List ℕ) (d d′ : Side) (i i′ k
 same-quote t t′ n n′ s s′ d d′ i i′ k k′ c c′ p p′ e1 e2 e3 e4 e5 e6 e7 e8 = cc
 
 quote-passes : (subscription : ℕ) (own : List ℕ) (q : QuoteFields) → LaidQuote subscription own q → quoteIn own ≡ Some (quote q)
-unfolding goodQuote quoteFields
 quote-passes subscription own q h =
     when-passes _ _ _ (and-from _ _ (and-from _ _ (and-from _ _ (named-passes (q .number) (q .symbol) own (h .named))
     (code-passes sideCode sides _ _ (side-back (q .side)) (h .side-field)))
@@ -80,7 +80,6 @@ same-imbalance : (t t′ n n′ : ℕ) (s s′ : List ℕ) (a a′ : Auction) (h
 same-imbalance t t′ n n′ s s′ a a′ h h′ c c′ p p′ o o′ m m′ e1 e2 e3 e4 e5 e6 e7 e8 e9 = cc
 
 imbalance-passes : (subscription : ℕ) (own : List ℕ) (i : ImbalanceFields) → LaidImbalance subscription own i → imbalanceIn own ≡ Some (imbalance i)
-unfolding goodImbalance imbalanceFields
 imbalance-passes subscription own i h =
     when-passes _ _ _ (and-from _ _ (and-from _ _ (named-passes (i .number) (i .symbol) own (h .named))
     (code-passes auctionCode auctions _ _ (auction-back (i .auction)) (h .auction-field)))
@@ -107,12 +106,18 @@ abbrev eventOf : ℕ → EventForm → Content
 eventOf stamp form = event record { stamp = stamp; form = form }
 
 event-passes : (subscription : ℕ) (own : List ℕ) (e : EventFields) → LaidEvent subscription own e → eventIn own ≡ Some (event e)
-unfolding goodEvent eventFields
 event-passes subscription own e h =
     let f = form-passes own (e .form) (h .codes) in
     when-passes _ _ _ (f .0) (ap (λ t. eventOf t (formOf own (eventCode (byte own 42) (byte own 43)))) (h .header .stamp-field) ∙ ap (eventOf (e .stamp)) (f .1))
 
--- a message with bytes after it
+-- the header of a message with bytes after it
+record Front (len type subscription : ℕ) (bytes own : List ℕ) : Type 0 where
+  enough : len ≤ length bytes
+  length-field : be16 bytes 0 ≡ len
+  type-field : byte bytes 2 ≡ type
+  subscription-field : byte bytes 3 ≡ subscription
+  cut-off : take len bytes ≡ own
+
 front : {len type subscription stamp : ℕ} {own : List ℕ} (rest : List ℕ) → 3 < len → MessageHeader len type subscription stamp own → Front len type subscription (own ++ rest) own
 front {len} {own = own} rest big h =
     let same : (i : ℕ) → i < 4 → byte (own ++ rest) i ≡ byte own i = λ i small. getD-append-left own rest 0 i (omega (arith, h .all)) in
@@ -123,10 +128,19 @@ front {len} {own = own} rest big h =
       length-field = omega (arith, h .length-field);
       type-field = same 2 (omega arith) ∙ h .type-field;
       subscription-field = same 3 (omega arith) ∙ h .subscription-field;
-      cut = sym (take-at own rest len (h .all));
+      cut-off = take-at own rest len (h .all);
     }
 
+cut-front : {len type subscription : ℕ} (bytes own : List ℕ) (read : List ℕ → Option Content) → Front len type subscription bytes own → cut len bytes read ≡ read own
+cut-front {len} bytes own read f = cut-whole bytes len read (f .length-field) (f .enough) ∙ ap read (f .cut-off)
+
 pub laid-read : (subscription : ℕ) (own rest : List ℕ) (c : Content) → LaidMessage subscription own c → message subscription (own ++ rest) ≡ Some c
-laid-read subscription own rest (quote q) h = message-quote subscription (own ++ rest) own (front rest (omega arith) (h .header)) ∙ quote-passes subscription own q h
-laid-read subscription own rest (imbalance i) h = message-imbalance subscription (own ++ rest) own (front rest (omega arith) (h .header)) ∙ imbalance-passes subscription own i h
-laid-read subscription own rest (event e) h = message-event subscription (own ++ rest) own (front rest (omega arith) (h .header)) ∙ event-passes subscription own e h
+laid-read subscription own rest (quote q) h =
+    let f = front rest (omega arith) (h .header) in
+    message-quote subscription (own ++ rest) (f .subscription-field) (f .type-field) ∙ cut-front (own ++ rest) own quoteIn f ∙ quote-passes subscription own q h
+laid-read subscription own rest (imbalance i) h =
+    let f = front rest (omega arith) (h .header) in
+    message-imbalance subscription (own ++ rest) (f .subscription-field) (f .type-field) ∙ cut-front (own ++ rest) own imbalanceIn f ∙ imbalance-passes subscription own i h
+laid-read subscription own rest (event e) h =
+    let f = front rest (omega arith) (h .header) in
+    message-event subscription (own ++ rest) (f .subscription-field) (f .type-field) ∙ cut-front (own ++ rest) own eventIn f ∙ event-passes subscription own e h

@@ -15,7 +15,7 @@ use Rattle.codes.specs.Codes.{sides, sideCode, levels, levelNumber, auctions, a
 use Rattle.feed.specs.Content.{Content, quote, imbalance, event}
 use Rattle.feed.specs.Layout.{Number, MessageHeader, Named, LaidQuote, LaidImbalance, LaidForm, LaidEvent, LaidMessage, Begins}
 use Rattle.feed.specs.Symbols.{wellFormed}
-use Rattle.feed.specs.Verdict.{message, when, inRange, starts, named, sideAt, levelAt, auctionAt, goodQuote, goodImbalance, goodEvent, goodForm, formOf, quoteFields, imbalanceFields, eventFields, quoteIn, imbalanceIn, eventIn}
+use Rattle.feed.specs.Verdict.{message, cut, when, inRange, named, sideAt, levelAt, auctionAt, goodQuote, goodImbalance, goodEvent, goodForm, formOf, quoteFields, imbalanceFields, eventFields, quoteIn, imbalanceIn, eventIn}
 use Rattle.feed.specs.Wire.{byte, be16, be32, part}
 use Rattle.codes.specs.declared.quote.Side.the-variants as side
 use Rattle.codes.specs.declared.quote.Level.the-variants as level
@@ -35,25 +35,22 @@ named-from own long e =
     record { number-field = refl; symbol-field = refl; number-good = number-from (be32 own 8) (h .0); symbol-good = symbol-from (part own 32 8) eight (h .1) }
 
 -- the header, from the bytes that the message starts
-header-from : (len type subscription : ℕ) (bytes : List ℕ) → 3 < len → starts len type subscription bytes ≡ true → MessageHeader len type subscription (be32 (take len bytes) 4) (take len bytes)
-header-from len type subscription bytes big e =
-    let h = and-parts (leb len (length bytes) && eqb (be16 bytes 0) len && eqb (byte bytes 2) type) (eqb (byte bytes 3) subscription) e in
-    let k = and-parts (leb len (length bytes) && eqb (be16 bytes 0) len) (eqb (byte bytes 2) type) (h .0) in
-    let l = and-parts (leb len (length bytes)) (eqb (be16 bytes 0) len) (k .0) in
+header-from : (len type subscription : ℕ) (bytes : List ℕ) → 3 < len → (eqb (be16 bytes 0) len && leb len (length bytes)) ≡ true → byte bytes 2 ≡ type → byte bytes 3 ≡ subscription → MessageHeader len type subscription (be32 (take len bytes) 4) (take len bytes)
+header-from len type subscription bytes big e kind sub =
+    let h = and-parts (eqb (be16 bytes 0) len) (leb len (length bytes)) e in
     let same : (i : ℕ) → i < 4 → byte (take len bytes) i ≡ byte bytes i = λ i small. getD-take len bytes i 0 (omega arith) in
     let first = same 0 (omega arith) in
     let second = same 1 (omega arith) in
-    let field = eqb-true (be16 bytes 0) len (l .1) in
+    let field = eqb-true (be16 bytes 0) len (h .0) in
     record {
-      all = length-take-le len bytes (leb-true len (length bytes) (l .0));
+      all = length-take-le len bytes (leb-true len (length bytes) (h .1));
       length-field = omega arith;
-      type-field = same 2 (omega arith) ∙ eqb-true (byte bytes 2) type (k .1);
-      subscription-field = same 3 (omega arith) ∙ eqb-true (byte bytes 3) subscription (h .1);
+      type-field = same 2 (omega arith) ∙ kind;
+      subscription-field = same 3 (omega arith) ∙ sub;
       stamp-field = refl;
     }
 
 quote-from : (subscription : ℕ) (own : List ℕ) → MessageHeader 52 113 subscription (be32 own 4) own → goodQuote own ≡ true → LaidQuote subscription own (quoteFields own)
-unfolding goodQuote quoteFields
 quote-from subscription own header e =
     let h = and-parts (named own && isSome (sideAt own 41) && isSome (levelAt own 42)) (isSome (levelAt own 43)) e in
     let k = and-parts (named own && isSome (sideAt own 41)) (isSome (levelAt own 42)) (h .0) in
@@ -69,7 +66,6 @@ quote-from subscription own header e =
     }
 
 imbalance-from : (subscription : ℕ) (own : List ℕ) → MessageHeader 60 105 subscription (be32 own 4) own → goodImbalance own ≡ true → LaidImbalance subscription own (imbalanceFields own)
-unfolding goodImbalance imbalanceFields
 imbalance-from subscription own header e =
     let h = and-parts (named own && isSome (auctionAt own 41)) (leb (be16 own 42) 2400) e in
     let k = and-parts (named own) (isSome (auctionAt own 41)) (h .0) in
@@ -95,19 +91,27 @@ form-from own long e = by (eventCode (byte own 42) (byte own 43)) refl e
     by None f g = let z : _≡_ {A = ℕ} 0 1 = cc in absurd (omega arith)
 
 event-from : (subscription : ℕ) (own : List ℕ) → MessageHeader 44 118 subscription (be32 own 4) own → goodEvent own ≡ true → LaidEvent subscription own (eventFields own)
-unfolding goodEvent eventFields
 event-from subscription own header e = record { header = header; codes = form-from own (omega (arith, header .all)) e }
 
 pub read-laid : (subscription : ℕ) (bytes : List ℕ) (c : Content) → message subscription bytes ≡ Some c → Begins subscription bytes c
 unfolding message
-read-laid subscription bytes c e = by-type (starts 52 113 subscription bytes) (starts 60 105 subscription bytes) (starts 44 118 subscription bytes) refl refl refl e
+read-laid subscription bytes c e = by-type (eqb (byte bytes 3) subscription) (eqb (byte bytes 2) 113) (eqb (byte bytes 2) 105) (eqb (byte bytes 2) 118) refl refl refl refl e
   where
     begins : (len : ℕ) (d : Content) (good : Bool) → (good ≡ true → LaidMessage subscription (take len bytes) d) → when good d ≡ Some c → Begins subscription bytes c
     begins len d true laid f = let same : d ≡ c = cc in record { own = take len bytes; rest = drop len bytes; joined = sym (take-append-drop len bytes); laid = subst (LaidMessage subscription (take len bytes)) same (laid refl) }
     begins len d false laid f = let z : _≡_ {A = ℕ} 0 1 = cc in absurd (omega arith)
 
-    by-type : (q i v : Bool) → starts 52 113 subscription bytes ≡ q → starts 60 105 subscription bytes ≡ i → starts 44 118 subscription bytes ≡ v → cond q (quoteIn (take 52 bytes)) (cond i (imbalanceIn (take 60 bytes)) (cond v (eventIn (take 44 bytes)) None)) ≡ Some c → Begins subscription bytes c
-    by-type true i v f g h e = begins 52 (quote (quoteFields (take 52 bytes))) (goodQuote (take 52 bytes)) (quote-from subscription (take 52 bytes) (header-from 52 113 subscription bytes (omega arith) f)) e
-    by-type false true v f g h e = begins 60 (imbalance (imbalanceFields (take 60 bytes))) (goodImbalance (take 60 bytes)) (imbalance-from subscription (take 60 bytes) (header-from 60 105 subscription bytes (omega arith) g)) e
-    by-type false false true f g h e = begins 44 (event (eventFields (take 44 bytes))) (goodEvent (take 44 bytes)) (event-from subscription (take 44 bytes) (header-from 44 118 subscription bytes (omega arith) h)) e
-    by-type false false false f g h e = let z : _≡_ {A = ℕ} 0 1 = cc in absurd (omega arith)
+    -- the header says this length, and it is all there
+    whole : (len type : ℕ) (read : List ℕ → Option Content) → 3 < len → byte bytes 2 ≡ type → byte bytes 3 ≡ subscription → (MessageHeader len type subscription (be32 (take len bytes) 4) (take len bytes) → read (take len bytes) ≡ Some c → Begins subscription bytes c) → cut len bytes read ≡ Some c → Begins subscription bytes c
+    whole len type read big kind sub then e = by (eqb (be16 bytes 0) len && leb len (length bytes)) refl e
+      where
+        by : (b : Bool) → (eqb (be16 bytes 0) len && leb len (length bytes)) ≡ b → cond b (read (take len bytes)) None ≡ Some c → Begins subscription bytes c
+        by true t e = then (header-from len type subscription bytes big t kind sub) e
+        by false t e = let z : _≡_ {A = ℕ} 0 1 = cc in absurd (omega arith)
+
+    by-type : (s q i v : Bool) → eqb (byte bytes 3) subscription ≡ s → eqb (byte bytes 2) 113 ≡ q → eqb (byte bytes 2) 105 ≡ i → eqb (byte bytes 2) 118 ≡ v → cond s (cond q (cut 52 bytes quoteIn) (cond i (cut 60 bytes imbalanceIn) (cond v (cut 44 bytes eventIn) None))) None ≡ Some c → Begins subscription bytes c
+    by-type true true i v s t g h e = whole 52 113 quoteIn (omega arith) (eqb-true _ _ t) (eqb-true _ _ s) (λ header. begins 52 (quote (quoteFields (take 52 bytes))) (goodQuote (take 52 bytes)) (quote-from subscription (take 52 bytes) header)) e
+    by-type true false true v s g t h e = whole 60 105 imbalanceIn (omega arith) (eqb-true _ _ t) (eqb-true _ _ s) (λ header. begins 60 (imbalance (imbalanceFields (take 60 bytes))) (goodImbalance (take 60 bytes)) (imbalance-from subscription (take 60 bytes) header)) e
+    by-type true false false true s g h t e = whole 44 118 eventIn (omega arith) (eqb-true _ _ t) (eqb-true _ _ s) (λ header. begins 44 (event (eventFields (take 44 bytes))) (goodEvent (take 44 bytes)) (event-from subscription (take 44 bytes) header)) e
+    by-type true false false false s g h t e = let z : _≡_ {A = ℕ} 0 1 = cc in absurd (omega arith)
+    by-type false q i v s g h t e = let z : _≡_ {A = ℕ} 0 1 = cc in absurd (omega arith)

@@ -16,7 +16,7 @@ use Rattle.feed.specs.declared.message.Message.{Message}
 use Rattle.feed.specs.declared.packet.Messages.{Messages}
 use Rattle.codes.specs.declared.refusal.Refusal.{Refusal}
 
-unfoldable pub pending : Messages → List Item
+abbrev pub pending : Messages → List Item
 pending m = items (m .subscription) (m .at) (drop (m .at) (m .packet .now))
 
 abbrev pub itemOf : Result (ℕ × Message) Refusal → Item

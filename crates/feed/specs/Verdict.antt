@@ -47,10 +47,10 @@ auctionAt own at = coded auctionCode auctions (byte own at)
 
 -- A quote's own 52 bytes: whether they are good, and their fields. A code that is none is taken for some case, so
 -- that the fields are there for any bytes.
-unfoldable pub goodQuote : List ℕ → Bool
+abbrev pub goodQuote : List ℕ → Bool
 goodQuote own = named own && isSome (sideAt own 41) && isSome (levelAt own 42) && isSome (levelAt own 43)
 
-unfoldable pub quoteFields : List ℕ → QuoteFields
+abbrev pub quoteFields : List ℕ → QuoteFields
 quoteFields own =
     record {
       stamp = be32 own 4;
@@ -64,10 +64,10 @@ quoteFields own =
     }
 
 -- an imbalance's own 60 bytes
-unfoldable pub goodImbalance : List ℕ → Bool
+abbrev pub goodImbalance : List ℕ → Bool
 goodImbalance own = named own && isSome (auctionAt own 41) && leb (be16 own 42) 2400
 
-unfoldable pub imbalanceFields : List ℕ → ImbalanceFields
+abbrev pub imbalanceFields : List ℕ → ImbalanceFields
 imbalanceFields own =
     record {
       stamp = be32 own 4;
@@ -94,10 +94,10 @@ formOf own (Some (Series code)) = form.Numbered (be32 own 8) (part own 32 8) cod
 formOf own (Some (Underlying code)) = form.Underlying code
 formOf own (Some Reset) = form.Reset
 
-unfoldable pub goodEvent : List ℕ → Bool
+abbrev pub goodEvent : List ℕ → Bool
 goodEvent own = goodForm own (eventCode (byte own 42) (byte own 43))
 
-unfoldable pub eventFields : List ℕ → EventFields
+abbrev pub eventFields : List ℕ → EventFields
 eventFields own = record { stamp = be32 own 4; form = formOf own (eventCode (byte own 42) (byte own 43)) }
 
 -- c, where the test passes
@@ -114,17 +114,19 @@ imbalanceIn own = when (goodImbalance own) (imbalance (imbalanceFields own))
 abbrev pub eventIn : List ℕ → Option Content
 eventIn own = when (goodEvent own) (event (eventFields own))
 
--- the bytes start with a whole message of this length, type and subscription, by its header
-abbrev pub starts : (len type subscription : ℕ) → List ℕ → Bool
-starts len type subscription bytes = leb len (length bytes) && eqb (be16 bytes 0) len && eqb (byte bytes 2) type && eqb (byte bytes 3) subscription
+-- a message of this length by its header, read from its own bytes, where they are all there
+abbrev pub cut : ℕ → List ℕ → (List ℕ → Option Content) → Option Content
+cut len bytes read = cond (eqb (be16 bytes 0) len && leb len (length bytes)) (read (take len bytes)) None
 
 -- the content of the first message of some bytes, by its type: q, i or v
 unfoldable pub message : ℕ → List ℕ → Option Content
 message subscription bytes =
-    cond (starts 52 113 subscription bytes) (quoteIn (take 52 bytes))
-    (cond (starts 60 105 subscription bytes) (imbalanceIn (take 60 bytes))
-    (cond (starts 44 118 subscription bytes) (eventIn (take 44 bytes))
-    None))
+    cond (eqb (byte bytes 3) subscription)
+    (cond (eqb (byte bytes 2) 113) (cut 52 bytes quoteIn)
+    (cond (eqb (byte bytes 2) 105) (cut 60 bytes imbalanceIn)
+    (cond (eqb (byte bytes 2) 118) (cut 44 bytes eventIn)
+    None)))
+    None
 
 -- the same for bytes at an offset of a packet, or the refusal
 abbrev pub judged : ℕ → Option Content → Result Content Returned

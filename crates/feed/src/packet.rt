@@ -126,11 +126,14 @@ impl<'a> Packet<'a> {
         ensures packet { λ r. ⌜ now (r .packet) ≡ now (self .entry .bytes) ⌝ }
         ensures all { λ r. ⌜ pending r ≡ items (self .entry .header .subscription) 8 (drop 8 (now (self .entry .bytes))) ⌝ }
     {
-        let packet = self.bytes;
+        let Packet {
+            header,
+            bytes: packet,
+        } = self;
         Messages {
             packet,
             at: HEADER_SIZE,
-            subscription: self.header.subscription,
+            subscription: header.subscription,
         }
     }
 }

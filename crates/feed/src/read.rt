@@ -1,7 +1,9 @@
 // Reads the first message of some bytes.
 ghost use mathlib.Core.Path.{_≡_};
 ghost use mathlib.Core.Logic.{_↔_};
-ghost use Prim.Native.Nat.{_≤_};
+ghost use mathlib.Core.Bool.{_&&_};
+ghost use Prim.Native.Nat.{_+_, _≤_, _<_, _^_};
+ghost use lib.Dec.{eqb, leb};
 ghost use lib.ListN.{length, take};
 ghost use Rattle.std.specs.Options.{mapped};
 ghost use Rattle.std.specs.Slices.{found};
@@ -11,7 +13,8 @@ ghost use Rattle.feed.specs.Content.{Content, size};
 ghost use Rattle.feed.specs.Layout.{Begins};
 ghost use Rattle.feed.specs.Messages.{content, ownBytes};
 ghost use Rattle.codes.specs.Refusals.{answered};
-ghost use Rattle.feed.specs.Verdict.{named, goodQuote, goodImbalance, goodEvent, quoteIn, imbalanceIn, eventIn, message, verdict};
+ghost use Rattle.feed.specs.Wire.{be16};
+ghost use Rattle.feed.specs.Verdict.{named, goodQuote, goodImbalance, goodEvent, quoteIn, imbalanceIn, eventIn, cut, message, verdict};
 use crate::message::Event;
 use crate::message::Imbalance;
 use crate::message::Message;
@@ -59,10 +62,16 @@ fn is_good_event(own: &[u8; 44]) -> bool
     }
 }
 
-fn read_quote(own: &[u8; 52]) -> Option<Message<'_>>
-    ensures content { λ r. ⌜ mapped content r ≡ quoteIn (now (own .entry)) ⌝ }
-    ensures own { λ r. ⌜ found r (λ m. (ownBytes m ≡ now (own .entry)) × (size (content m) ≡ 52)) ⌝ }
+// A quote by its header's length, from the bytes that it starts.
+fn read_quote(bytes: &[u8], length: u16) -> Option<Message<'_>>
+    requires { ⌜ length ≡ be16 (now bytes) 0 ⌝ }
+    ensures content { λ r. ⌜ mapped content r ≡ cut 52 (now (bytes .entry)) quoteIn ⌝ }
+    ensures own { λ r. ⌜ found r (λ m. (ownBytes m ≡ take 52 (now (bytes .entry))) × (size (content m) ≡ 52)) ⌝ }
 {
+    if length != 52 {
+        return None;
+    }
+    let own = bytes.first_chunk::<52>()?;
     if is_good_quote(own) {
         Some(Message::Quote(Quote { bytes: own }))
     } else {
@@ -70,10 +79,16 @@ fn read_quote(own: &[u8; 52]) -> Option<Message<'_>>
     }
 }
 
-fn read_imbalance(own: &[u8; 60]) -> Option<Message<'_>>
-    ensures content { λ r. ⌜ mapped content r ≡ imbalanceIn (now (own .entry)) ⌝ }
-    ensures own { λ r. ⌜ found r (λ m. (ownBytes m ≡ now (own .entry)) × (size (content m) ≡ 60)) ⌝ }
+// An imbalance by its header's length, from the bytes that it starts.
+fn read_imbalance(bytes: &[u8], length: u16) -> Option<Message<'_>>
+    requires { ⌜ length ≡ be16 (now bytes) 0 ⌝ }
+    ensures content { λ r. ⌜ mapped content r ≡ cut 60 (now (bytes .entry)) imbalanceIn ⌝ }
+    ensures own { λ r. ⌜ found r (λ m. (ownBytes m ≡ take 60 (now (bytes .entry))) × (size (content m) ≡ 60)) ⌝ }
 {
+    if length != 60 {
+        return None;
+    }
+    let own = bytes.first_chunk::<60>()?;
     if is_good_imbalance(own) {
         Some(Message::Imbalance(Imbalance { bytes: own }))
     } else {
@@ -81,15 +96,29 @@ fn read_imbalance(own: &[u8; 60]) -> Option<Message<'_>>
     }
 }
 
-fn read_event(own: &[u8; 44]) -> Option<Message<'_>>
-    ensures content { λ r. ⌜ mapped content r ≡ eventIn (now (own .entry)) ⌝ }
-    ensures own { λ r. ⌜ found r (λ m. (ownBytes m ≡ now (own .entry)) × (size (content m) ≡ 44)) ⌝ }
+// An event by its header's length, from the bytes that it starts.
+fn read_event(bytes: &[u8], length: u16) -> Option<Message<'_>>
+    requires { ⌜ length ≡ be16 (now bytes) 0 ⌝ }
+    ensures content { λ r. ⌜ mapped content r ≡ cut 44 (now (bytes .entry)) eventIn ⌝ }
+    ensures own { λ r. ⌜ found r (λ m. (ownBytes m ≡ take 44 (now (bytes .entry))) × (size (content m) ≡ 44)) ⌝ }
 {
+    if length != 44 {
+        return None;
+    }
+    let own = bytes.first_chunk::<44>()?;
     if is_good_event(own) {
         Some(Message::Event(Event { bytes: own }))
     } else {
         None
     }
+}
+
+// The header is of this subscription, and the bytes left after it are enough for its length.
+fn is_headed(own_subscription: u8, subscription: u8, length: u16, left: usize) -> bool
+    requires { ⌜ left + 8 < 2 ^ 64 ⌝ }
+    ensures { λ r. ⌜ r ≡ (eqb «own_subscription» subscription && leb length (left + 8)) ⌝ }
+{
+    own_subscription == subscription && length as usize <= left + 8
 }
 
 fn first_message(bytes: &[u8], subscription: u8) -> Option<Message<'_>>
@@ -100,13 +129,13 @@ fn first_message(bytes: &[u8], subscription: u8) -> Option<Message<'_>>
         return None;
     };
     let length = u16::from_be_bytes([*l0, *l1]);
-    if *own_subscription != subscription || rest.len() + 8 < length as usize {
+    if !is_headed(*own_subscription, subscription, length, rest.len()) {
         return None;
     }
-    match (*kind, length) {
-        (b'q', 52) => read_quote(bytes.first_chunk::<52>()?),
-        (b'i', 60) => read_imbalance(bytes.first_chunk::<60>()?),
-        (b'v', 44) => read_event(bytes.first_chunk::<44>()?),
+    match *kind {
+        b'q' => read_quote(bytes, length),
+        b'i' => read_imbalance(bytes, length),
+        b'v' => read_event(bytes, length),
         _ => None,
     }
 }

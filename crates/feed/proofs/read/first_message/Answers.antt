@@ -1,48 +1,52 @@
 use mathlib.Core.Path.{sym, _∙_}
+use mathlib.Core.Bool.{true, false}
+use Prim.Native.Nat.{_≤_, _<_}
 use native.Mathlib.Omega.{arith}
+use lib.ListN.{length}
 use Rattle.std.proofs.shelf.Ways.{tells}
-use Rattle.feed.specs.Verdict.{message}
-use Rattle.feed.proofs.Verdicts.{message-quote, message-imbalance, message-event, own-front}
+use Rattle.feed.proofs.Verdicts.{message-short, headed-is, headed-own, message-unheaded, message-quote, message-imbalance, message-event, message-other, own-front}
 use Rattle.feed.proofs.read.first_message.Needs as need
 
 pub returns-in-rest : need.returns-in-rest
-unfolding message
-returns-in-rest c = record { content = grind (arith, tells); own = tt }
+returns-in-rest c =
+    let short : length (c .args .bytes .now) < 8 = grind (arith, tells) in
+    record { content = message-short (c .args .subscription) (c .args .bytes .now) short; own = tt }
 
-pub returns-then-own-subscription-subscription : need.returns-then-own-subscription-subscription
-unfolding message
-returns-then-own-subscription-subscription c = record { content = grind (arith, tells); own = tt }
-
-pub returns-in-rest-2 : need.returns-in-rest-2
-unfolding message
-returns-in-rest-2 c = record { content = grind (arith, tells); own = tt }
-
-pub returns-in-Continue-first-chunk : need.returns-in-Continue-first-chunk
-returns-in-Continue-first-chunk c =
-    let cut = c .in-Continue-first-chunk .ensures tt .cases in
+pub returns-then-not-is-headed : need.returns-then-not-is-headed
+returns-then-not-is-headed c =
+    let sub = c .args .subscription in
     let bytes = c .args .bytes .now in
-    let own = c .in-Continue-first-chunk .field-0 .now in
-    record {
-      content = c .read-quote .ensures .content ∙ sym (message-quote (c .args .subscription) bytes own record { enough = cut .enough; length-field = sym (c .from-be-bytes-length .ensures) ∙ c .in-113-eq52 .is-1; type-field = c .in-113-eq52 .is-0; subscription-field = c .if-own-subscription-subscription .left; cut = cut .same });
-      own = own-front (c .args .subscription) bytes own 52 (c .read-quote .result) (cut .same) (c .read-quote .ensures .own);
-    }
+    let long : 8 ≤ length bytes = grind (arith, tells) in
+    record { content = message-unheaded sub bytes (headed-is sub bytes _ false long (c .from-be-bytes-length .ensures) (c .if-not-is-headed .ensures tt)); own = tt }
 
-pub returns-in-Continue-first-chunk-2 : need.returns-in-Continue-first-chunk-2
-returns-in-Continue-first-chunk-2 c =
-    let cut = c .in-Continue-first-chunk-2 .ensures tt .cases in
+pub returns-in-113 : need.returns-in-113
+returns-in-113 c =
+    let sub = c .args .subscription in
     let bytes = c .args .bytes .now in
-    let own = c .in-Continue-first-chunk-2 .field-0 .now in
-    record {
-      content = c .read-imbalance .ensures .content ∙ sym (message-imbalance (c .args .subscription) bytes own record { enough = cut .enough; length-field = sym (c .from-be-bytes-length .ensures) ∙ c .in-105-eq60 .is-1; type-field = c .in-105-eq60 .is-0; subscription-field = c .if-own-subscription-subscription .left; cut = cut .same });
-      own = own-front (c .args .subscription) bytes own 60 (c .read-imbalance .result) (cut .same) (c .read-imbalance .ensures .own);
-    }
+    let long : 8 ≤ length bytes = grind (arith, tells) in
+    let own = headed-own sub bytes (headed-is sub bytes _ true long (c .from-be-bytes-length .ensures) (c .if-not-is-headed .ensures tt)) in
+    record { content = c .read-quote .ensures .content ∙ sym (message-quote sub bytes own (c .in-113 .is)); own = own-front bytes 52 (c .read-quote .result) (c .read-quote .ensures .own) }
 
-pub returns-in-Continue-first-chunk-3 : need.returns-in-Continue-first-chunk-3
-returns-in-Continue-first-chunk-3 c =
-    let cut = c .in-Continue-first-chunk-3 .ensures tt .cases in
+pub returns-in-105 : need.returns-in-105
+returns-in-105 c =
+    let sub = c .args .subscription in
     let bytes = c .args .bytes .now in
-    let own = c .in-Continue-first-chunk-3 .field-0 .now in
-    record {
-      content = c .read-event .ensures .content ∙ sym (message-event (c .args .subscription) bytes own record { enough = cut .enough; length-field = sym (c .from-be-bytes-length .ensures) ∙ c .in-118-eq44 .is-1; type-field = c .in-118-eq44 .is-0; subscription-field = c .if-own-subscription-subscription .left; cut = cut .same });
-      own = own-front (c .args .subscription) bytes own 44 (c .read-event .result) (cut .same) (c .read-event .ensures .own);
-    }
+    let long : 8 ≤ length bytes = grind (arith, tells) in
+    let own = headed-own sub bytes (headed-is sub bytes _ true long (c .from-be-bytes-length .ensures) (c .if-not-is-headed .ensures tt)) in
+    record { content = c .read-imbalance .ensures .content ∙ sym (message-imbalance sub bytes own (c .in-105 .is)); own = own-front bytes 60 (c .read-imbalance .result) (c .read-imbalance .ensures .own) }
+
+pub returns-in-118 : need.returns-in-118
+returns-in-118 c =
+    let sub = c .args .subscription in
+    let bytes = c .args .bytes .now in
+    let long : 8 ≤ length bytes = grind (arith, tells) in
+    let own = headed-own sub bytes (headed-is sub bytes _ true long (c .from-be-bytes-length .ensures) (c .if-not-is-headed .ensures tt)) in
+    record { content = c .read-event .ensures .content ∙ sym (message-event sub bytes own (c .in-118 .is)); own = own-front bytes 44 (c .read-event .result) (c .read-event .ensures .own) }
+
+pub returns-in-rest-kind : need.returns-in-rest-kind
+returns-in-rest-kind c =
+    let sub = c .args .subscription in
+    let bytes = c .args .bytes .now in
+    let long : 8 ≤ length bytes = grind (arith, tells) in
+    let own = headed-own sub bytes (headed-is sub bytes _ true long (c .from-be-bytes-length .ensures) (c .if-not-is-headed .ensures tt)) in
+    record { content = message-other sub bytes own (λ e. grind (arith, tells)) (λ e. grind (arith, tells)) (λ e. grind (arith, tells)); own = tt }

@@ -6,19 +6,16 @@ use lib.ListN.{length}
 use Rattle.std.proofs.shelf.Lists.{take-rest}
 use Rattle.feed.specs.Items.{refused}
 use Rattle.feed.specs.Messages.{content}
-use Rattle.feed.specs.Pending.{pending}
 use Rattle.codes.specs.Refusals.{returned}
 use Rattle.feed.proofs.Steps.{next-good, next-refused, next-none}
 use Rattle.feed.proofs.packet.MessagesIterator.next.Needs as need
 
 pub returns-then-at-packet : need.returns-then-at-packet
-unfolding pending
 returns-then-at-packet c =
     let s = c .args .self .now in
     record { steps = (next-none (s .subscription) (s .packet .now) (s .at) (c .if-at-packet .taken), refl); goes = search needs }
 
 pub returns-in-Ok : need.returns-in-Ok
-unfolding pending
 returns-in-Ok c =
     let s = c .args .self .now in
     let read = rw take-rest at (c .in-Ok .ensures tt .verdict) in
@@ -27,7 +24,6 @@ returns-in-Ok c =
     record { steps = (n .1, own, refl, refl); goes = search needs }
 
 pub returns-in-Err : need.returns-in-Err
-unfolding pending
 returns-in-Err c =
     let s = c .args .self .now in
     let read = rw take-rest at (c .in-Err .ensures tt .verdict) in
