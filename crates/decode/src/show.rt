@@ -57,7 +57,10 @@ pub fn show_packet(rt: &LibcRuntime, at: usize, bytes: &[u8]) -> io::Result<()> 
     for item in packet.messages() {
         match item {
             Ok((offset, message)) => show_message(rt, offset, message)?,
-            Err(refusal) => show_refusal(rt, refusal)?,
+            Err(refusal) => {
+                print!(rt, "  ")?;
+                show_refusal(rt, refusal)?;
+            }
         }
     }
     Ok(())
