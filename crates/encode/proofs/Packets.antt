@@ -120,21 +120,27 @@ module _ (subscription number : ℕ) (messages : List ℕ) where
       refuses = exact;
     }
 
-    module _ (after : List ℕ) (answer : Result ℕ Returned) (fault : packetFault subscription number messages ≡ None) (a : answer ≡ putAnswer (length (packetBytes subscription number messages)) before) (b : after ≡ put (packetBytes subscription number messages) before) where
+    module _ (after own : List ℕ) (answer : Result ℕ Returned) (fault : packetFault subscription number messages ≡ None) (is : own ≡ packetBytes subscription number messages) (given : answer ≡ putAnswer (length own) before) (left : after ≡ put own before) where
+      packet-answer : answer ≡ putAnswer (length (packetBytes subscription number messages)) before
+      packet-answer = subst (λ l. answer ≡ putAnswer (length l) before) is given
+
+      packet-after : after ≡ put (packetBytes subscription number messages) before
+      packet-after = subst (λ l. after ≡ put l before) is left
+
       front : answer ≡ Ok (8 + length messages) → take (8 + length messages) after ≡ packetBytes subscription number messages
       front e = by (leb (length (packetBytes subscription number messages)) (length before)) refl
         where
           by : (t : Bool) → leb (length (packetBytes subscription number messages)) (length before) ≡ t → take (8 + length messages) after ≡ packetBytes subscription number messages
-          by true t = ap (take (8 + length messages)) (b ∙ cond-true _ _ _ t) ∙ take-at (packetBytes subscription number messages) (drop (length (packetBytes subscription number messages)) before) (8 + length messages) (omega arith)
-          by false t = let f = a ∙ cond-false _ _ _ t in let z : _≡_ {A = ℕ} 0 1 = cc in absurd (omega arith)
+          by true t = ap (take (8 + length messages)) (packet-after ∙ cond-true _ _ _ t) ∙ take-at (packetBytes subscription number messages) (drop (length (packetBytes subscription number messages)) before) (8 + length messages) (omega arith)
+          by false t = let f = packet-answer ∙ cond-false _ _ _ t in let z : _≡_ {A = ℕ} 0 1 = cc in absurd (omega arith)
 
       laid-front : (contents : List Content) → LaidMessages subscription messages contents → answer ≡ Ok (8 + length messages) → LaidPacket subscription (take (8 + length messages) after) number contents
       laid-front contents h e = subst (λ l. LaidPacket subscription l number contents) (sym (front e)) (packet-laid contents (sound fault) h)
 
       pub packet-put : WrotePacket subscription number messages before after answer
       packet-put = record {
-        answers = a ∙ sym (ap (λ f. orFault f (packetBytes subscription number messages) before) fault);
-        leaves = b ∙ sym (ap (λ f. putUnless f (packetBytes subscription number messages) before) fault);
+        answers = packet-answer ∙ sym (ap (λ f. orFault f (packetBytes subscription number messages) before) fault);
+        leaves = packet-after ∙ sym (ap (λ f. putUnless f (packetBytes subscription number messages) before) fault);
         laid = laid-front;
         reads = λ e. let c = contents-of (sound fault) in packets-agree subscription (take (8 + length messages) after) number (c .0) .1 (laid-front (c .0) (c .1) e) .0;
         messages-read = λ e. ap (λ l. items subscription 8 (drop 8 l)) (front e);
@@ -167,7 +173,13 @@ module _ (subscription number : ℕ) (before : List ℕ) where
         reads = λ a. let z : _≡_ {A = ℕ} 0 1 = cc in absurd (omega arith);
       }
 
-  module _ (after : List ℕ) (answer : Result ℕ Returned) (high : number ≤ 4294967294) (a : answer ≡ putAnswer 8 before) (b : after ≡ put (packetHeader Heartbeat 8 subscription number) before) where
+  module _ (after own : List ℕ) (answer : Result ℕ Returned) (high : number ≤ 4294967294) (is : own ≡ packetHeader Heartbeat 8 subscription number) (given : answer ≡ putAnswer (length own) before) (left : after ≡ put own before) where
+    beat-answer : answer ≡ putAnswer 8 before
+    beat-answer = subst (λ l. answer ≡ putAnswer (length l) before) is given
+
+    beat-after : after ≡ put (packetHeader Heartbeat 8 subscription number) before
+    beat-after = subst (λ l. after ≡ put l before) is left
+
     beat-front : answer ≡ Ok 8 → LaidHeartbeat subscription (take 8 after) number
     beat-front e = by (leb 8 (length before)) refl
       where
@@ -175,15 +187,15 @@ module _ (subscription number : ℕ) (before : List ℕ) where
         laid = record { header = record { shortest = omega arith; longest = omega arith; length-field = refl; type-field = refl; subscription-field = refl; number-field = back32 number (omega arith) }; all = refl; high = high }
 
         by : (t : Bool) → leb 8 (length before) ≡ t → LaidHeartbeat subscription (take 8 after) number
-        by true t = subst (λ l. LaidHeartbeat subscription l number) (sym (ap (take 8) (b ∙ cond-true _ _ _ t) ∙ take-at (packetHeader Heartbeat 8 subscription number) (drop 8 before) 8 refl)) laid
-        by false t = let f = a ∙ cond-false _ _ _ t in let z : _≡_ {A = ℕ} 0 1 = cc in absurd (omega arith)
+        by true t = subst (λ l. LaidHeartbeat subscription l number) (sym (ap (take 8) (beat-after ∙ cond-true _ _ _ t) ∙ take-at (packetHeader Heartbeat 8 subscription number) (drop 8 before) 8 refl)) laid
+        by false t = let f = beat-answer ∙ cond-false _ _ _ t in let z : _≡_ {A = ℕ} 0 1 = cc in absurd (omega arith)
 
     pub heartbeat-put : WroteHeartbeat subscription number before after answer
     heartbeat-put =
         let f = cond-true (leb number 4294967294) None (Some (alone 4)) (le-leb _ _ high) in
         record {
-          answers = a ∙ sym (ap (λ f. orFault f (packetHeader Heartbeat 8 subscription number) before) f);
-          leaves = b ∙ sym (ap (λ f. putUnless f (packetHeader Heartbeat 8 subscription number) before) f);
+          answers = beat-answer ∙ sym (ap (λ f. orFault f (packetHeader Heartbeat 8 subscription number) before) f);
+          leaves = beat-after ∙ sym (ap (λ f. putUnless f (packetHeader Heartbeat 8 subscription number) before) f);
           laid = beat-front;
           reads = λ e. heartbeats-agree subscription (take 8 after) number .1 (beat-front e);
         }

@@ -1,8 +1,8 @@
 -- The messages of a packet that are still to come, and what a call of `next` takes of them.
 use mathlib.Core.Path.{_≡_}
 use mathlib.Core.List.{List, [], _∷_}
-use Prim.Native.Nat.{ℕ}
-use lib.ListN.{drop}
+use Prim.Native.Nat.{ℕ, _-_}
+use lib.ListN.{length, drop}
 use Rattle.std.specs.declared.option.Option.{Option}
 use Rattle.std.specs.declared.option.Option.the-variants.{Some, None}
 use Rattle.std.specs.declared.result.Result.{Result}
@@ -18,6 +18,9 @@ use Rattle.codes.specs.declared.refusal.Refusal.{Refusal}
 
 abbrev pub pending : Messages → List Item
 pending m = items (m .subscription) (m .at) (drop (m .at) (m .packet .now))
+
+abbrev pub bytesLeft : Messages → ℕ
+bytesLeft m = length (m .packet .now) - m .at
 
 abbrev pub itemOf : Result (ℕ × Message) Refusal → Item
 itemOf (Ok (offset, message)) = good offset (content message)

@@ -1,13 +1,15 @@
 // A packet: its header, and its messages one after the other.
 ghost use mathlib.Core.Path.{_≡_};
-ghost use Prim.Native.Nat.{_-_};
-ghost use lib.ListN.{length, drop};
+ghost use mathlib.Core.Bool.{true};
+ghost use Prim.Native.Nat.{_<_};
+ghost use lib.ListN.{drop};
+ghost use Rattle.std.specs.Options.{isSome};
 ghost use Rattle.std.specs.Vec.{made};
 ghost use Rattle.codes.specs.Refusals.{answered};
 ghost use Rattle.feed.specs.Agreement.{PacketsAgree, HeartbeatsAgree};
 ghost use Rattle.feed.specs.Items.{items, counted};
 ghost use Rattle.feed.specs.Packets.{goodLength, goodNumber, goodBody, headerVerdict, packetVerdict};
-ghost use Rattle.feed.specs.Pending.{pending, Next};
+ghost use Rattle.feed.specs.Pending.{pending, bytesLeft, Next};
 use crate::message::Message;
 use crate::numbers::LAST_NUMBER;
 use crate::numbers::in_range;
@@ -146,18 +148,12 @@ pub struct Messages<'a> {
     subscription: u8,
 }
 
-pub impl<'a> Iterator for Messages<'a> as MessagesIterator {
-    type Item = Result<(usize, Message<'a>), Refusal>;
-
-    ghost can = { λ _. Unit {0} };
-
-    ghost steps = { λ s r t. Next s r t };
-
-    ghost ends = { λ _. Unit {0} };
-
-    ghost left = { λ s. length (s .packet .now) - s .at };
-
-    fn next(&mut self) -> Option<Result<(usize, Message<'a>), Refusal>> {
+impl<'a> Messages<'a> {
+    // The next message with its offset, or the refusal of a broken one, after which nothing is left.
+    fn advance(&mut self) -> Option<Result<(usize, Message<'a>), Refusal>>
+        ensures next { λ r. ⌜ Next (now (self .entry)) r (now (self .exit)) ⌝ }
+        ensures shrinks { λ r. ⌜ (isSome r ≡ true → bytesLeft (now (self .exit)) < bytesLeft (now (self .entry))) ⌝ }
+    {
         let packet = self.packet;
         let at = self.at;
         if at >= packet.len() {
@@ -173,5 +169,21 @@ pub impl<'a> Iterator for Messages<'a> as MessagesIterator {
                 Some(Err(refusal))
             }
         }
+    }
+}
+
+pub impl<'a> Iterator for Messages<'a> as MessagesIterator {
+    type Item = Result<(usize, Message<'a>), Refusal>;
+
+    ghost can = { λ _. Unit {0} };
+
+    ghost steps = { λ s r t. Next s r t };
+
+    ghost ends = { λ _. Unit {0} };
+
+    ghost left = { λ s. bytesLeft s };
+
+    fn next(&mut self) -> Option<Result<(usize, Message<'a>), Refusal>> {
+        self.advance()
     }
 }

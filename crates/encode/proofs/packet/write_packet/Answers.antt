@@ -1,5 +1,5 @@
 use mathlib.Core.Path.{sym, ap, _∙_}
-use mathlib.Core.List.{List, _++_, append-nil}
+use mathlib.Core.List.{List, [], _++_, append-nil}
 use Prim.Native.Nat.{ℕ, _+_}
 use native.Mathlib.Omega.{arith}
 use lib.ListN.{length}
@@ -7,7 +7,6 @@ use Rattle.std.specs.declared.option.Option.the-variants.{Some, None}
 use Rattle.std.proofs.shelf.Results.{err-from-errBy}
 use Rattle.codes.specs.Refusals.{alone, returned}
 use Rattle.encode.specs.Encode.{headerBytes}
-use Rattle.encode.specs.Writing.{putAnswer, put}
 use Rattle.encode.proofs.Packets.{packet-refused, packet-put, fault-length, fault-number, fault-messages}
 use Rattle.encode.proofs.packet.write_packet.Needs as need
 
@@ -33,8 +32,6 @@ returns c =
     let sub = c .args .subscription in
     let number = c .args .number in
     let messages = c .args .messages .now in
-    let out = c .args .out .now in
-    let own = append-nil (c .header-bytes-header .result ++ messages) ∙ ap (λ (h : List ℕ). h ++ messages) (c .header-bytes-header .ensures .bytes ∙ ap (λ k. headerBytes (8 + length messages) k sub number) (c .code .ensures)) in
-    packet-put sub number messages out _ _ (fault-messages sub number messages (omega arith) None (sym (c .if-not-in-range .ensures tt)) (c .in-Continue-check-messages .ensures tt))
-    (c .put-parts .ensures .answer ∙ ap (λ (l : List ℕ). putAnswer (length l) out) own)
-    (c .put-parts .ensures .after ∙ ap (λ (l : List ℕ). put l out) own)
+    let header = c .header-bytes-header .result in
+    let is = append-nil (header ++ messages) ∙ ap (λ (h : List ℕ). h ++ messages) (c .header-bytes-header .ensures .bytes ∙ ap (λ k. headerBytes (8 + length messages) k sub number) (c .code .ensures)) in
+    packet-put sub number messages (c .args .out .now) _ (header ++ messages ++ []) _ (fault-messages sub number messages (omega arith) None (sym (c .if-not-in-range .ensures tt)) (c .in-Continue-check-messages .ensures tt)) is (c .put-parts .ensures .answer) (c .put-parts .ensures .after)
