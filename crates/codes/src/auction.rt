@@ -12,6 +12,7 @@ pub enum Auction {
 }
 
 impl Auction {
+    // The auction that a code stands for: `O`, `M`, `H` or `C`.
     pub fn from_code(code: u8) -> Option<Auction>
         ensures { λ r. ⌜ r ≡ coded auctionCode auctions code ⌝ }
     {
@@ -24,6 +25,7 @@ impl Auction {
         }
     }
 
+    // The byte that stands for it.
     pub fn code(self) -> u8
         ensures { λ r. ⌜ r ≡ auctionCode self ⌝ }
     {

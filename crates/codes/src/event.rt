@@ -18,6 +18,7 @@ pub enum SeriesEvent {
 }
 
 impl SeriesEvent {
+    // The event that a code stands for: one of `A B C L N O S T U X`.
     pub fn from_code(code: u8) -> Option<SeriesEvent>
         ensures { λ r. ⌜ r ≡ coded seriesCode seriesEvents code ⌝ }
     {
@@ -36,6 +37,7 @@ impl SeriesEvent {
         }
     }
 
+    // The byte that stands for it.
     pub fn code(self) -> u8
         ensures { λ r. ⌜ r ≡ seriesCode self ⌝ }
     {
@@ -64,6 +66,7 @@ pub enum UnderlyingEvent {
 }
 
 impl UnderlyingEvent {
+    // The event that a code stands for: `o`, `s`, `u` or `x`.
     pub fn from_code(code: u8) -> Option<UnderlyingEvent>
         ensures { λ r. ⌜ r ≡ coded underlyingCode underlyingEvents code ⌝ }
     {
@@ -76,6 +79,7 @@ impl UnderlyingEvent {
         }
     }
 
+    // The byte that stands for it.
     pub fn code(self) -> u8
         ensures { λ r. ⌜ r ≡ underlyingCode self ⌝ }
     {
@@ -117,6 +121,7 @@ impl EventCode {
         }
     }
 
+    // The byte at 42 of the event.
     pub fn event_code(self) -> u8
         ensures { λ r. ⌜ r ≡ eventByte self ⌝ }
     {
@@ -127,6 +132,7 @@ impl EventCode {
         }
     }
 
+    // The byte at 43 of the event: `C`, or `R` for the reset.
     pub fn reset_code(self) -> u8
         ensures { λ r. ⌜ r ≡ resetByte self ⌝ }
     {

@@ -2,6 +2,7 @@
 ghost use mathlib.Core.Path.{_≡_};
 ghost use Rattle.codes.specs.Codes.{coded, packetTypes, packetCode};
 
+// What a packet is.
 #[derive(Clone, Copy)]
 pub enum PacketType {
     // M: it carries messages, and the numbers of these packets go up by one.
@@ -11,6 +12,7 @@ pub enum PacketType {
 }
 
 impl PacketType {
+    // The type that a code stands for: `M` or `B`.
     pub fn from_code(code: u8) -> Option<PacketType>
         ensures { λ r. ⌜ r ≡ coded packetCode packetTypes code ⌝ }
     {
@@ -21,6 +23,7 @@ impl PacketType {
         }
     }
 
+    // The byte that stands for it.
     pub fn code(self) -> u8
         ensures { λ r. ⌜ r ≡ packetCode self ⌝ }
     {

@@ -2,6 +2,7 @@
 ghost use mathlib.Core.Path.{_≡_};
 ghost use Rattle.codes.specs.Codes.{coded, sides, sideCode, levels, levelNumber};
 
+// The side of a book.
 #[derive(Clone, Copy)]
 pub enum Side {
     Bid,
@@ -20,6 +21,7 @@ impl Side {
         }
     }
 
+    // The byte that stands for it.
     pub fn code(self) -> u8
         ensures { λ r. ⌜ r ≡ sideCode self ⌝ }
     {
@@ -55,6 +57,7 @@ impl Level {
         }
     }
 
+    // 1 for the best level to 5.
     pub fn number(self) -> u8
         ensures { λ r. ⌜ r ≡ levelNumber self ⌝ }
     {

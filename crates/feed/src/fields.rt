@@ -36,6 +36,7 @@ pub struct ImbalanceFields {
     pub market: u32,
 }
 
+// Something happened to a series, to an underlying, or to the whole subscription.
 #[derive(Clone, Copy)]
 pub struct EventFields {
     pub stamp: u32,

@@ -20,12 +20,14 @@ use codes::event::EventCode;
 use codes::quote::Level;
 use codes::quote::Side;
 
+// A quote, by its 52 bytes of the packet.
 #[derive(Clone, Copy)]
 pub struct Quote<'a> {
     pub(crate) bytes: &'a [u8; 52],
 }
 
 impl<'a> Quote<'a> {
+    // Its fields, read from their places.
     pub fn fields(self) -> QuoteFields
         ensures { λ r. ⌜ r ≡ quoteFields (now (self .entry .bytes)) ⌝ }
     {
@@ -43,12 +45,14 @@ impl<'a> Quote<'a> {
     }
 }
 
+// An imbalance, by its 60 bytes of the packet.
 #[derive(Clone, Copy)]
 pub struct Imbalance<'a> {
     pub(crate) bytes: &'a [u8; 60],
 }
 
 impl<'a> Imbalance<'a> {
+    // Its fields, read from their places.
     pub fn fields(self) -> ImbalanceFields
         ensures { λ r. ⌜ r ≡ imbalanceFields (now (self .entry .bytes)) ⌝ }
     {
@@ -67,12 +71,14 @@ impl<'a> Imbalance<'a> {
     }
 }
 
+// An event, by its 44 bytes of the packet.
 #[derive(Clone, Copy)]
 pub struct Event<'a> {
     pub(crate) bytes: &'a [u8; 44],
 }
 
 impl<'a> Event<'a> {
+    // Its fields, read from their places.
     pub fn fields(self) -> EventFields
         ensures { λ r. ⌜ r ≡ eventFields (now (self .entry .bytes)) ⌝ }
     {
@@ -93,6 +99,7 @@ impl<'a> Event<'a> {
     }
 }
 
+// A message of one of the three types.
 #[derive(Clone, Copy)]
 pub enum Message<'a> {
     Quote(Quote<'a>),
@@ -113,7 +120,7 @@ impl<'a> Message<'a> {
         }
     }
 
-    // The message's own bytes.
+    // Its own bytes of the packet.
     pub fn bytes(self) -> &'a [u8]
         ensures { λ r. ⌜ now r ≡ ownBytes (self .entry) ⌝ }
     {

@@ -19,10 +19,13 @@ use crate::read::read_message;
 use codes::packet::PacketType;
 use codes::refusal::Refusal;
 
+// The length of a packet's header.
 pub const HEADER_SIZE: usize = 8;
 
+// The longest packet, in bytes.
 pub const LONGEST_PACKET: usize = 8_192;
 
+// The header of a packet, checked.
 #[derive(Clone, Copy)]
 pub struct Header {
     pub kind: PacketType,
@@ -105,6 +108,7 @@ impl<'a> Packet<'a> {
         Ok(Packet { header, bytes })
     }
 
+    // The header that was checked.
     pub fn header(self) -> Header
         ensures { λ r. ⌜ r ≡ self .entry .header ⌝ }
     {
