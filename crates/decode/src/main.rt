@@ -5,7 +5,7 @@ ghost use mathlib.Core.Path.{_≡_};
 ghost use Prim.Native.Nat.{_≤_};
 ghost use lib.ListN.{length};
 ghost use Rattle.std.specs.Options.{Cases as BySome};
-ghost use Rattle.feed.specs.Wire.{be16};
+ghost use Rattle.messages.specs.Wire.{be16};
 use crate::show::show_packet;
 use std::io;
 use std::io::Read;

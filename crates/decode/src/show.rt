@@ -1,14 +1,14 @@
 // A line for each packet and for each message, or for its refusal.
 use codes::packet::PacketType;
 use codes::refusal::Refusal;
-use feed::fields::EventFields;
-use feed::fields::EventForm;
-use feed::fields::ImbalanceFields;
-use feed::fields::QuoteFields;
-use feed::message::Message;
 use feed::packet::MessagesIterator;
 use feed::packet::Packet;
-use feed::symbol::Symbol;
+use messages::fields::EventFields;
+use messages::fields::EventForm;
+use messages::fields::ImbalanceFields;
+use messages::fields::QuoteFields;
+use messages::message::Message;
+use messages::symbol::Symbol;
 use std::fmt;
 use std::io;
 

@@ -6,17 +6,17 @@ use Prim.Native.Nat.{ℕ, _^_, _<_}
 use lib.Dec.{leb}
 use Rattle.std.proofs.shelf.Tests.{and-parts, and-from, leb-true, le-leb}
 use Rattle.codes.specs.declared.event.SeriesEvent.{SeriesEvent}
-use Rattle.feed.specs.Content.{Content, quote, imbalance, event}
-use Rattle.feed.specs.Layout.{Named, LaidQuote, LaidImbalance, LaidForm, LaidEvent, LaidMessage}
-use Rattle.feed.specs.Symbols.{wellFormed}
-use Rattle.feed.specs.Verdict.{inRange}
-use Rattle.feed.specs.declared.fields.QuoteFields.{QuoteFields}
-use Rattle.feed.specs.declared.fields.ImbalanceFields.{ImbalanceFields}
-use Rattle.feed.specs.declared.fields.EventForm.{EventForm}
-use Rattle.feed.specs.declared.fields.EventForm.the-variants.{Numbered, Underlying, Reset}
-use Rattle.feed.proofs.Layouts.{number-passes}
-use Rattle.feed.proofs.Readings.{number-from}
-use Rattle.feed.proofs.Symbols.{symbol-passes, symbol-from}
+use Rattle.messages.specs.Content.{Content, quote, imbalance, event}
+use Rattle.messages.specs.Layout.{Named, LaidQuote, LaidImbalance, LaidForm, LaidEvent, LaidMessage}
+use Rattle.messages.specs.Symbols.{wellFormed}
+use Rattle.messages.specs.Verdict.{inRange}
+use Rattle.messages.specs.declared.fields.QuoteFields.{QuoteFields}
+use Rattle.messages.specs.declared.fields.ImbalanceFields.{ImbalanceFields}
+use Rattle.messages.specs.declared.fields.EventForm.{EventForm}
+use Rattle.messages.specs.declared.fields.EventForm.the-variants.{Numbered, Underlying, Reset}
+use Rattle.messages.proofs.Layouts.{number-passes}
+use Rattle.messages.proofs.Readings.{number-from}
+use Rattle.messages.proofs.Symbols.{symbol-passes, symbol-from}
 use Rattle.encode.specs.Encode.{headerBytes, namedBytes, quoteBytes, imbalanceBytes, eventBytes, encoded, nameable, writableForm, writable}
 use Rattle.encode.specs.Typed.{TypedQuote, TypedImbalance, TypedForm, Typed}
 use Rattle.encode.proofs.Numbers.{back16, back32, eight}

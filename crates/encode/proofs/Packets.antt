@@ -15,13 +15,14 @@ use Rattle.std.proofs.shelf.Lists.{take-at}
 use Rattle.std.proofs.shelf.Tests.{cond-true, cond-false, leb-true, le-leb, lt-leb}
 use Rattle.codes.specs.Refusals.{Returned, alone}
 use Rattle.codes.specs.declared.packet.PacketType.the-variants.{Heartbeat}
-use Rattle.feed.specs.Content.{Content, size}
+use Rattle.messages.specs.Content.{Content, size}
 use Rattle.feed.specs.Items.{good, itemThen, atMost, items, goods}
-use Rattle.feed.specs.Layout.{Number, LaidMessages, none, more, PacketHeader, LaidPacket, LaidHeartbeat}
-use Rattle.feed.specs.Verdict.{verdict, inRange}
+use Rattle.messages.specs.Layout.{Number}
+use Rattle.feed.specs.Layout.{LaidMessages, none, more, PacketHeader, LaidPacket, LaidHeartbeat}
+use Rattle.messages.specs.Verdict.{verdict, inRange}
 use Rattle.feed.proofs.Agreements.{some-bytes, laid-items, items-laid, packets-agree, heartbeats-agree}
-use Rattle.feed.proofs.Layouts.{number-passes}
-use Rattle.feed.proofs.Readings.{number-from}
+use Rattle.messages.proofs.Layouts.{number-passes}
+use Rattle.messages.proofs.Readings.{number-from}
 use Rattle.encode.specs.Packing.{packetHeader, packetBytes, firstRefused, messagesFault, packetFault, orFault, putUnless, WrotePacket, WroteHeartbeat}
 use Rattle.encode.specs.Writing.{putAnswer, put}
 use Rattle.encode.proofs.Numbers.{back16, back32}

@@ -10,9 +10,9 @@ use Rattle.std.specs.declared.result.Result.the-variants.{Ok, Err}
 use Rattle.std.proofs.shelf.Lists.{take-at, drop-at, drop-drop}
 use Rattle.std.proofs.shelf.Tests.{cond-true, cond-false, le-leb, lt-leb}
 use Rattle.codes.specs.Refusals.{Returned, alone, placed}
-use Rattle.feed.specs.Content.{Content, size}
+use Rattle.messages.specs.Content.{Content, size}
 use Rattle.feed.specs.Items.{items}
-use Rattle.feed.specs.Verdict.{verdict}
+use Rattle.messages.specs.Verdict.{verdict}
 use Rattle.feed.proofs.Steps.{size-fits, items-good, items-refused, items-none}
 use Rattle.encode.specs.Packing.{firstRefused, messagesFault}
 use Rattle.encode.specs.Writing.{putAnswer, put}

@@ -11,9 +11,9 @@ use Rattle.std.specs.declared.result.Result.the-variants.{Ok, Err}
 use Rattle.std.proofs.shelf.Lists.{take-at}
 use Rattle.std.proofs.shelf.Tests.{cond-true, cond-false}
 use Rattle.codes.specs.Refusals.{Returned, placed}
-use Rattle.feed.specs.Content.{Content, size}
-use Rattle.feed.specs.Layout.{LaidMessage}
-use Rattle.feed.proofs.Judgements.{verdict-laid}
+use Rattle.messages.specs.Content.{Content, size}
+use Rattle.messages.specs.Layout.{LaidMessage}
+use Rattle.messages.proofs.Judgements.{verdict-laid}
 use Rattle.feed.proofs.Steps.{laid-size}
 use Rattle.encode.specs.Encode.{encoded, writable}
 use Rattle.encode.specs.Typed.{Typed}

@@ -7,14 +7,14 @@ use lib.ListN.{replicate}
 use Rattle.codes.specs.Codes.{sideCode, levelNumber, auctionCode, eventByte, resetByte}
 use Rattle.codes.specs.declared.event.EventCode.{EventCode}
 use Rattle.codes.specs.declared.event.EventCode.the-variants as both
-use Rattle.feed.specs.Content.{Content, quote, imbalance, event}
-use Rattle.feed.specs.Symbols.{wellFormed}
-use Rattle.feed.specs.Verdict.{inRange}
-use Rattle.feed.specs.declared.fields.QuoteFields.{QuoteFields}
-use Rattle.feed.specs.declared.fields.ImbalanceFields.{ImbalanceFields}
-use Rattle.feed.specs.declared.fields.EventFields.{EventFields}
-use Rattle.feed.specs.declared.fields.EventForm.{EventForm}
-use Rattle.feed.specs.declared.fields.EventForm.the-variants.{Numbered, Underlying, Reset}
+use Rattle.messages.specs.Content.{Content, quote, imbalance, event}
+use Rattle.messages.specs.Symbols.{wellFormed}
+use Rattle.messages.specs.Verdict.{inRange}
+use Rattle.messages.specs.declared.fields.QuoteFields.{QuoteFields}
+use Rattle.messages.specs.declared.fields.ImbalanceFields.{ImbalanceFields}
+use Rattle.messages.specs.declared.fields.EventFields.{EventFields}
+use Rattle.messages.specs.declared.fields.EventForm.{EventForm}
+use Rattle.messages.specs.declared.fields.EventForm.the-variants.{Numbered, Underlying, Reset}
 
 -- numbers, the high byte first
 abbrev pub bytes16 : ℕ → List ℕ

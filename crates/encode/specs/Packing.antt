@@ -14,11 +14,11 @@ use Rattle.codes.specs.Codes.{packetCode}
 use Rattle.codes.specs.Refusals.{Returned, alone, placed}
 use Rattle.codes.specs.declared.packet.PacketType.{PacketType}
 use Rattle.codes.specs.declared.packet.PacketType.the-variants.{Messages, Heartbeat}
-use Rattle.feed.specs.Content.{Content}
+use Rattle.messages.specs.Content.{Content}
 use Rattle.feed.specs.Items.{Item, good, refused, items}
 use Rattle.feed.specs.Layout.{LaidMessages, LaidPacket, LaidHeartbeat}
 use Rattle.feed.specs.Packets.{headed, packetVerdict}
-use Rattle.feed.specs.Verdict.{inRange}
+use Rattle.messages.specs.Verdict.{inRange}
 use Rattle.encode.specs.Encode.{headerBytes}
 use Rattle.encode.specs.Writing.{putAnswer, put}
 

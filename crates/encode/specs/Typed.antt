@@ -2,12 +2,12 @@
 use mathlib.Core.Path.{_≡_}
 use Prim.Native.Nat.{_<_, _^_}
 use lib.ListN.{length}
-use Rattle.feed.specs.Content.{Content, quote, imbalance, event}
-use Rattle.feed.specs.declared.fields.QuoteFields.{QuoteFields}
-use Rattle.feed.specs.declared.fields.ImbalanceFields.{ImbalanceFields}
-use Rattle.feed.specs.declared.fields.EventFields.{EventFields}
-use Rattle.feed.specs.declared.fields.EventForm.{EventForm}
-use Rattle.feed.specs.declared.fields.EventForm.the-variants.{Numbered, Underlying, Reset}
+use Rattle.messages.specs.Content.{Content, quote, imbalance, event}
+use Rattle.messages.specs.declared.fields.QuoteFields.{QuoteFields}
+use Rattle.messages.specs.declared.fields.ImbalanceFields.{ImbalanceFields}
+use Rattle.messages.specs.declared.fields.EventFields.{EventFields}
+use Rattle.messages.specs.declared.fields.EventForm.{EventForm}
+use Rattle.messages.specs.declared.fields.EventForm.the-variants.{Numbered, Underlying, Reset}
 
 pub record TypedQuote (q : QuoteFields) : Type 0 where
   pub stamp : q .stamp < 2 ^ 32

@@ -9,9 +9,9 @@ use lib.ListN.{length, take, drop}
 use Rattle.std.specs.declared.result.Result.{Result}
 use Rattle.std.specs.declared.result.Result.the-variants.{Ok, Err}
 use Rattle.codes.specs.Refusals.{Returned, alone, placed}
-use Rattle.feed.specs.Content.{Content, size}
-use Rattle.feed.specs.Layout.{LaidMessage}
-use Rattle.feed.specs.Verdict.{verdict}
+use Rattle.messages.specs.Content.{Content, size}
+use Rattle.messages.specs.Layout.{LaidMessage}
+use Rattle.messages.specs.Verdict.{verdict}
 use Rattle.encode.specs.Encode.{encoded, writable}
 
 -- so many bytes put at the front of a buffer, or refusal 9

@@ -4,7 +4,7 @@ ghost use mathlib.Core.Bool.{_&&_};
 ghost use Prim.Native.Nat.{_<_, _^_};
 ghost use lib.Dec.{leb};
 ghost use Rattle.codes.specs.Refusals.{answered};
-ghost use Rattle.feed.specs.Content.{quote, imbalance, event};
+ghost use Rattle.messages.specs.Content.{quote, imbalance, event};
 ghost use Rattle.encode.specs.Encode.{quoteTail, imbalanceTail, formNamed, formTail, nameable, writableForm};
 ghost use Rattle.encode.specs.Typed.{TypedForm};
 ghost use Rattle.encode.specs.Writing.{Wrote};
@@ -13,13 +13,14 @@ use crate::parts::named_bytes;
 use crate::parts::put_parts;
 use codes::event::EventCode;
 use codes::refusal::Refusal;
-use feed::fields::EventFields;
-use feed::fields::EventForm;
-use feed::fields::ImbalanceFields;
-use feed::fields::QuoteFields;
-use feed::numbers::in_range;
-use feed::symbol::Symbol;
-use feed::symbol::is_well_formed;
+use messages::fields::EventFields;
+use messages::fields::EventForm;
+use messages::fields::ImbalanceFields;
+use messages::fields::LATEST_TIME;
+use messages::fields::QuoteFields;
+use messages::numbers::in_range;
+use messages::symbol::Symbol;
+use messages::symbol::is_well_formed;
 
 fn is_nameable(number: u32, symbol: &Symbol) -> bool
     ensures { λ r. ⌜ r ≡ nameable number (now (symbol .entry)) ⌝ }
@@ -27,10 +28,10 @@ fn is_nameable(number: u32, symbol: &Symbol) -> bool
     in_range(number) && is_well_formed(symbol)
 }
 
-fn is_writable_imbalance(imbalance: &ImbalanceFields) -> bool
-    ensures { λ r. ⌜ r ≡ (nameable (now (imbalance .entry) .number) (now (imbalance .entry) .symbol) && leb (now (imbalance .entry) .time) 2400) ⌝ }
+fn is_writable_imbalance(fields: &ImbalanceFields) -> bool
+    ensures { λ r. ⌜ r ≡ (nameable (now (fields .entry) .number) (now (fields .entry) .symbol) && leb (now (fields .entry) .time) 2400) ⌝ }
 {
-    is_nameable(imbalance.number, &imbalance.symbol) && imbalance.time <= 2400
+    is_nameable(fields.number, &fields.symbol) && fields.time <= LATEST_TIME
 }
 
 fn is_writable_form(form: &EventForm) -> bool
@@ -43,34 +44,34 @@ fn is_writable_form(form: &EventForm) -> bool
 }
 
 // A quote's bytes from 40 on.
-fn quote_tail(quote: QuoteFields) -> [u8; 12]
-    ensures bytes { λ r. ⌜ r ≡ quoteTail quote ⌝ }
-    ensures contracts { λ _. ⌜ quote .contracts < 2 ^ 32 ⌝ }
-    ensures price { λ _. ⌜ quote .price < 2 ^ 32 ⌝ }
+fn quote_tail(fields: QuoteFields) -> [u8; 12]
+    ensures bytes { λ r. ⌜ r ≡ quoteTail fields ⌝ }
+    ensures contracts { λ _. ⌜ fields .contracts < 2 ^ 32 ⌝ }
+    ensures price { λ _. ⌜ fields .price < 2 ^ 32 ⌝ }
 {
-    let side = quote.side.code();
-    let insert = quote.insert.number();
-    let delete = quote.delete.number();
-    let [c0, c1, c2, c3] = quote.contracts.to_be_bytes();
-    let [p0, p1, p2, p3] = quote.price.to_be_bytes();
+    let side = fields.side.code();
+    let insert = fields.insert.number();
+    let delete = fields.delete.number();
+    let [c0, c1, c2, c3] = fields.contracts.to_be_bytes();
+    let [p0, p1, p2, p3] = fields.price.to_be_bytes();
     [0, side, insert, delete, c0, c1, c2, c3, p0, p1, p2, p3]
 }
 
 // An imbalance's bytes from 40 on.
-fn imbalance_tail(imbalance: ImbalanceFields) -> [u8; 20]
-    ensures bytes { λ r. ⌜ r ≡ imbalanceTail imbalance ⌝ }
-    ensures time { λ _. ⌜ imbalance .time < 2 ^ 16 ⌝ }
-    ensures contracts { λ _. ⌜ imbalance .contracts < 2 ^ 32 ⌝ }
-    ensures price { λ _. ⌜ imbalance .price < 2 ^ 32 ⌝ }
-    ensures total { λ _. ⌜ imbalance .total < 2 ^ 32 ⌝ }
-    ensures market { λ _. ⌜ imbalance .market < 2 ^ 32 ⌝ }
+fn imbalance_tail(fields: ImbalanceFields) -> [u8; 20]
+    ensures bytes { λ r. ⌜ r ≡ imbalanceTail fields ⌝ }
+    ensures time { λ _. ⌜ fields .time < 2 ^ 16 ⌝ }
+    ensures contracts { λ _. ⌜ fields .contracts < 2 ^ 32 ⌝ }
+    ensures price { λ _. ⌜ fields .price < 2 ^ 32 ⌝ }
+    ensures total { λ _. ⌜ fields .total < 2 ^ 32 ⌝ }
+    ensures market { λ _. ⌜ fields .market < 2 ^ 32 ⌝ }
 {
-    let auction = imbalance.auction.code();
-    let [h0, h1] = imbalance.time.to_be_bytes();
-    let [c0, c1, c2, c3] = imbalance.contracts.to_be_bytes();
-    let [p0, p1, p2, p3] = imbalance.price.to_be_bytes();
-    let [t0, t1, t2, t3] = imbalance.total.to_be_bytes();
-    let [m0, m1, m2, m3] = imbalance.market.to_be_bytes();
+    let auction = fields.auction.code();
+    let [h0, h1] = fields.time.to_be_bytes();
+    let [c0, c1, c2, c3] = fields.contracts.to_be_bytes();
+    let [p0, p1, p2, p3] = fields.price.to_be_bytes();
+    let [t0, t1, t2, t3] = fields.total.to_be_bytes();
+    let [m0, m1, m2, m3] = fields.market.to_be_bytes();
     [
         0,
         auction,

@@ -8,11 +8,11 @@ use crate::parts::header_bytes;
 use crate::parts::put_parts;
 use codes::packet::PacketType;
 use codes::refusal::Refusal;
-use feed::numbers::LAST_NUMBER;
-use feed::numbers::in_range;
-use feed::packet::HEADER_SIZE;
 use feed::packet::LONGEST_PACKET;
-use feed::read::read_message;
+use messages::numbers::HEADER_SIZE;
+use messages::numbers::LAST_NUMBER;
+use messages::numbers::in_range;
+use messages::read::read_message;
 
 // At least one message, and none broken; they stand behind the packet's header.
 fn check_messages(messages: &[u8], subscription: u8) -> Result<(), Refusal>

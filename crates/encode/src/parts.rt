@@ -7,15 +7,15 @@ ghost use Rattle.codes.specs.Refusals.{answered};
 ghost use Rattle.encode.specs.Encode.{headerBytes, namedBytes};
 ghost use Rattle.encode.specs.Writing.{putAnswer, put};
 use codes::refusal::Refusal;
-use feed::packet::HEADER_SIZE;
-use feed::symbol::Symbol;
+use messages::numbers::HEADER_SIZE;
+use messages::symbol::Symbol;
 
 // The first eight bytes: of a message with its stamp last, of a packet with its number.
-pub(crate) fn header_bytes(length: u16, kind: u8, subscription: u8, last: u32) -> [u8; 8]
-    ensures bytes { λ r. ⌜ r ≡ headerBytes length kind subscription last ⌝ }
+pub(crate) fn header_bytes(len: u16, kind: u8, subscription: u8, last: u32) -> [u8; 8]
+    ensures bytes { λ r. ⌜ r ≡ headerBytes len kind subscription last ⌝ }
     ensures typed { λ _. ⌜ last < 2 ^ 32 ⌝ }
 {
-    let [l0, l1] = length.to_be_bytes();
+    let [l0, l1] = len.to_be_bytes();
     let [b0, b1, b2, b3] = last.to_be_bytes();
     [l0, l1, kind, subscription, b0, b1, b2, b3]
 }
@@ -63,7 +63,7 @@ pub(crate) fn named_bytes(number: u32, symbol: Symbol) -> [u8; 32]
     ]
 }
 
-// Puts three parts, one after the other, at the front of a buffer that has room for them.
+// Puts three parts, one after the other, at the front of a buffer, or refuses where it has no room for them.
 pub(crate) fn put_parts(
     header: &[u8; 8],
     middle: &[u8],

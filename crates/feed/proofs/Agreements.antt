@@ -14,20 +14,21 @@ use Rattle.std.proofs.shelf.Lists.{drop-at}
 use Rattle.std.proofs.shelf.Tests.{cond-true, leb-true, ltb-true, eqb-true, le-leb, lt-ltb, eq-eqb, and-parts, and-from}
 use Rattle.feed.specs.Agreement.{PacketsAgree, HeartbeatsAgree}
 use Rattle.codes.specs.Codes.{coded, packetCode, packetTypes}
-use Rattle.feed.specs.Content.{Content, size}
+use Rattle.messages.specs.Content.{Content, size}
 use Rattle.feed.specs.Items.{good, itemThen, items, goods}
-use Rattle.feed.specs.Layout.{Begins, LaidMessages, none, more, PacketHeader}
+use Rattle.messages.specs.Layout.{Begins}
+use Rattle.feed.specs.Layout.{LaidMessages, none, more, PacketHeader}
 use Rattle.feed.specs.Packets.{goodLength, goodNumber, goodBody, headed, numbered, bodied, headerVerdict, packetVerdict}
 use Rattle.codes.specs.Refusals.{Returned, alone, placed}
-use Rattle.feed.specs.Verdict.{verdict}
-use Rattle.feed.specs.Wire.{byte, be16, be32}
+use Rattle.messages.specs.Verdict.{verdict}
+use Rattle.messages.specs.Wire.{byte, be16, be32}
 use Rattle.feed.specs.declared.packet.Header.{Header}
 use Rattle.codes.specs.declared.packet.PacketType.{PacketType}
 use Rattle.codes.specs.declared.packet.PacketType.the-variants.{Messages, Heartbeat}
 use Rattle.codes.proofs.Cases.{coded-is}
-use Rattle.feed.proofs.Judgements.{verdict-laid}
-use Rattle.feed.proofs.Layouts.{number-passes}
-use Rattle.feed.proofs.Readings.{number-from}
+use Rattle.messages.proofs.Judgements.{verdict-laid}
+use Rattle.messages.proofs.Layouts.{number-passes}
+use Rattle.messages.proofs.Readings.{number-from}
 use Rattle.feed.proofs.Steps.{some-size, laid-size, items-then, items-none, items-good, items-refused}
 
 pub laid-items : (subscription offset : ℕ) {bytes : List ℕ} {cs : List Content} → LaidMessages subscription bytes cs → items subscription offset bytes ≡ goods offset cs
@@ -88,9 +89,9 @@ module _ (subscription : ℕ) (bytes : List ℕ) (kind : PacketType) (number : �
 
   headed-laid : headerVerdict subscription bytes ≡ Ok (headed kind subscription number) → PacketHeader (packetCode kind) subscription number bytes × (goodNumber kind number ≡ true)
   unfolding headerVerdict
-  headed-laid e = by-length (goodLength bytes) (eqb (byte bytes 3) subscription) (coded packetCode packetTypes (byte bytes 2)) refl refl refl e
+  headed-laid e = by-length (goodLength (be16 bytes 0) (length bytes)) (eqb (byte bytes 3) subscription) (coded packetCode packetTypes (byte bytes 2)) refl refl refl e
     where
-      by-number : (k : PacketType) (b : Bool) → goodNumber k (be32 bytes 4) ≡ b → goodLength bytes ≡ true → eqb (byte bytes 3) subscription ≡ true → coded packetCode packetTypes (byte bytes 2) ≡ Some k → cond b (Ok (headed k subscription (be32 bytes 4))) (Err (alone 4)) ≡ Ok (headed kind subscription number) → PacketHeader (packetCode kind) subscription number bytes × (goodNumber kind number ≡ true)
+      by-number : (k : PacketType) (b : Bool) → goodNumber k (be32 bytes 4) ≡ b → goodLength (be16 bytes 0) (length bytes) ≡ true → eqb (byte bytes 3) subscription ≡ true → coded packetCode packetTypes (byte bytes 2) ≡ Some k → cond b (Ok (headed k subscription (be32 bytes 4))) (Err (alone 4)) ≡ Ok (headed kind subscription number) → PacketHeader (packetCode kind) subscription number bytes × (goodNumber kind number ≡ true)
       by-number k false n l s t e = let z : _≡_ {A = ℕ} 0 1 = cc in absurd (omega arith)
       by-number k true n l s t e =
           let h : headed k subscription (be32 bytes 4) ≡ headed kind subscription number = cc in
@@ -109,7 +110,7 @@ module _ (subscription : ℕ) (bytes : List ℕ) (kind : PacketType) (number : �
             ap (λ k. goodNumber k number) (sym same) ∙ ap (goodNumber k) (sym field) ∙ n,
           )
 
-      by-length : (l s : Bool) (o : Option PacketType) → goodLength bytes ≡ l → eqb (byte bytes 3) subscription ≡ s → coded packetCode packetTypes (byte bytes 2) ≡ o → cond l (cond s (numbered subscription (be32 bytes 4) o) (Err (alone 2))) (Err (alone 1)) ≡ Ok (headed kind subscription number) → PacketHeader (packetCode kind) subscription number bytes × (goodNumber kind number ≡ true)
+      by-length : (l s : Bool) (o : Option PacketType) → goodLength (be16 bytes 0) (length bytes) ≡ l → eqb (byte bytes 3) subscription ≡ s → coded packetCode packetTypes (byte bytes 2) ≡ o → cond l (cond s (numbered subscription (be32 bytes 4) o) (Err (alone 2))) (Err (alone 1)) ≡ Ok (headed kind subscription number) → PacketHeader (packetCode kind) subscription number bytes × (goodNumber kind number ≡ true)
       by-length true true (Some k) l s t e = by-number k (goodNumber k (be32 bytes 4)) refl l s t e
       by-length true true None l s t e = let z : _≡_ {A = ℕ} 0 1 = cc in absurd (omega arith)
       by-length true false o l s t e = let z : _≡_ {A = ℕ} 0 1 = cc in absurd (omega arith)

@@ -7,12 +7,12 @@ use lib.ListN.{length, drop, length-drop, length-append}
 use Rattle.std.proofs.shelf.Lists.{drop-drop}
 use Rattle.std.specs.declared.result.Result.{Result}
 use Rattle.std.specs.declared.result.Result.the-variants.{Ok, Err}
-use Rattle.feed.specs.Content.{Content, quote, imbalance, event, size}
+use Rattle.messages.specs.Content.{Content, quote, imbalance, event, size}
 use Rattle.feed.specs.Items.{Item, good, refused, itemThen, atMost, items}
-use Rattle.feed.specs.Layout.{LaidMessage}
+use Rattle.messages.specs.Layout.{LaidMessage}
 use Rattle.codes.specs.Refusals.{Returned}
-use Rattle.feed.specs.Verdict.{verdict}
-use Rattle.feed.proofs.Judgements.{verdict-laid}
+use Rattle.messages.specs.Verdict.{verdict}
+use Rattle.messages.proofs.Judgements.{verdict-laid}
 
 pub some-size : (c : Content) → 0 < size c
 some-size (quote q) = omega arith

@@ -6,7 +6,7 @@ use Prim.Native.Nat.{ℕ}
 use lib.ListN.{drop}
 use Rattle.std.specs.declared.result.Result.{Result}
 use Rattle.std.specs.declared.result.Result.the-variants.{Ok}
-use Rattle.feed.specs.Content.{Content}
+use Rattle.messages.specs.Content.{Content}
 use Rattle.feed.specs.Items.{items, goods}
 use Rattle.feed.specs.Layout.{LaidPacket, LaidHeartbeat}
 use Rattle.feed.specs.Packets.{headed}

@@ -2,11 +2,13 @@
 use mathlib.Core.List.{List, [], _∷_}
 use Prim.Native.Nat.{ℕ, zero, suc, _+_}
 use lib.ListN.{length, drop}
+use Rattle.std.specs.declared.option.Option.{Option}
+use Rattle.std.specs.declared.option.Option.the-variants.{Some, None}
 use Rattle.std.specs.declared.result.Result.{Result}
 use Rattle.std.specs.declared.result.Result.the-variants.{Ok, Err}
-use Rattle.feed.specs.Content.{Content, size}
+use Rattle.messages.specs.Content.{Content, size}
 use Rattle.codes.specs.Refusals.{Returned}
-use Rattle.feed.specs.Verdict.{verdict}
+use Rattle.messages.specs.Verdict.{verdict}
 
 pub data Item : Type 0 where
   good : (offset : ℕ) → Content → Item
@@ -33,12 +35,8 @@ abbrev pub goods : ℕ → List Content → List Item
 goods offset [] = []
 goods offset (c ∷ cs) = good offset c ∷ goods (offset + size c) cs
 
--- how many messages there are, or the first refusal
-abbrev pub oneMore : Result ℕ Returned → Result ℕ Returned
-oneMore (Ok n) = Ok (suc n)
-oneMore (Err e) = Err e
-
-abbrev pub counted : List Item → Result ℕ Returned
-counted [] = Ok 0
-counted (good offset c ∷ is) = oneMore (counted is)
-counted (refused e ∷ is) = Err e
+-- the item of an index, counted from 0
+abbrev pub nth : ℕ → List Item → Option Item
+nth k [] = None
+nth zero (i ∷ is) = Some i
+nth (suc k) (i ∷ is) = nth k is

@@ -1,10 +1,5 @@
-pub mod Wire
-pub mod Symbols
-pub mod Content
-pub mod Verdict
-pub mod Messages
-pub mod Layout
 pub mod Items
 pub mod Packets
 pub mod Pending
+pub mod Layout
 pub mod Agreement

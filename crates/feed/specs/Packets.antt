@@ -10,14 +10,15 @@ use Rattle.std.specs.declared.result.Result.{Result}
 use Rattle.std.specs.declared.result.Result.the-variants.{Ok, Err}
 use Rattle.codes.specs.Codes.{coded, packetTypes, packetCode}
 use Rattle.codes.specs.Refusals.{Returned, alone, placed}
-use Rattle.feed.specs.Verdict.{inRange}
-use Rattle.feed.specs.Wire.{byte, be16, be32}
+use Rattle.messages.specs.Verdict.{inRange}
+use Rattle.messages.specs.Wire.{byte, be16, be32}
 use Rattle.codes.specs.declared.packet.PacketType.{PacketType}
 use Rattle.codes.specs.declared.packet.PacketType.the-variants.{Messages, Heartbeat}
 use Rattle.feed.specs.declared.packet.Header.{Header}
 
-abbrev pub goodLength : List ℕ → Bool
-goodLength bytes = leb 8 (length bytes) && leb (length bytes) 8192 && eqb (be16 bytes 0) (length bytes)
+-- 8 to 8,192 bytes, as the length field says
+abbrev pub goodLength : (said len : ℕ) → Bool
+goodLength said len = leb 8 len && leb len 8192 && eqb said len
 
 -- a heartbeat may name 0: no packet yet
 abbrev pub goodNumber : PacketType → ℕ → Bool
@@ -34,7 +35,7 @@ numbered subscription number (Some kind) = cond (goodNumber kind number) (Ok (he
 -- rows 1 to 4, the uppermost first
 unfoldable pub headerVerdict : ℕ → List ℕ → Result Header Returned
 headerVerdict subscription bytes =
-    cond (goodLength bytes)
+    cond (goodLength (be16 bytes 0) (length bytes))
     (cond (eqb (byte bytes 3) subscription)
     (numbered subscription (be32 bytes 4) (coded packetCode packetTypes (byte bytes 2)))
     (Err (alone 2)))

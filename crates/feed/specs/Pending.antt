@@ -7,12 +7,12 @@ use Rattle.std.specs.declared.option.Option.{Option}
 use Rattle.std.specs.declared.option.Option.the-variants.{Some, None}
 use Rattle.std.specs.declared.result.Result.{Result}
 use Rattle.std.specs.declared.result.Result.the-variants.{Ok, Err}
-use Rattle.feed.specs.Content.{size}
+use Rattle.messages.specs.Content.{size}
 use Rattle.feed.specs.Items.{Item, good, refused, items}
-use Rattle.feed.specs.Messages.{content, ownBytes}
+use Rattle.messages.specs.Messages.{content, ownBytes}
 use Rattle.codes.specs.Refusals.{returned}
-use Rattle.feed.specs.Wire.{part}
-use Rattle.feed.specs.declared.message.Message.{Message}
+use Rattle.messages.specs.Wire.{part}
+use Rattle.messages.specs.declared.message.Message.{Message}
 use Rattle.feed.specs.declared.packet.Messages.{Messages}
 use Rattle.codes.specs.declared.refusal.Refusal.{Refusal}
 

@@ -1,7 +1,2 @@
-// Packets and messages of the feed, read from bytes without copying them.
-pub mod fields;
-pub mod message;
-pub mod numbers;
+// The packets of the feed, and their messages one after the other.
 pub mod packet;
-pub mod read;
-pub mod symbol;

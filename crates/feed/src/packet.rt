@@ -3,24 +3,21 @@ ghost use mathlib.Core.Path.{_≡_};
 ghost use mathlib.Core.Bool.{true};
 ghost use Prim.Native.Nat.{_<_};
 ghost use lib.ListN.{drop};
-ghost use Rattle.std.specs.Options.{isSome};
+ghost use Rattle.std.specs.Options.{isSome, mapped};
+ghost use Rattle.std.specs.Slices.{found};
 ghost use Rattle.std.specs.Vec.{made};
 ghost use Rattle.codes.specs.Refusals.{answered};
 ghost use Rattle.feed.specs.Agreement.{PacketsAgree, HeartbeatsAgree};
-ghost use Rattle.feed.specs.Items.{items, counted};
+ghost use Rattle.feed.specs.Items.{items, nth};
 ghost use Rattle.feed.specs.Packets.{goodLength, goodNumber, goodBody, headerVerdict, packetVerdict};
-ghost use Rattle.feed.specs.Pending.{pending, bytesLeft, Next};
-use crate::message::Message;
-use crate::numbers::LAST_NUMBER;
-use crate::numbers::in_range;
-use crate::numbers::read_u16;
-use crate::numbers::read_u32;
-use crate::read::read_message;
+ghost use Rattle.feed.specs.Pending.{pending, bytesLeft, itemOf, Cut, Next};
 use codes::packet::PacketType;
 use codes::refusal::Refusal;
-
-// The length of a packet's header.
-pub const HEADER_SIZE: usize = 8;
+use messages::message::Message;
+use messages::numbers::HEADER_SIZE;
+use messages::numbers::LAST_NUMBER;
+use messages::numbers::in_range;
+use messages::read::read_message;
 
 // The longest packet, in bytes.
 pub const LONGEST_PACKET: usize = 8_192;
@@ -38,14 +35,17 @@ impl Header {
     pub fn read(bytes: &[u8], subscription: u8) -> Result<Header, Refusal>
         ensures { λ r. ⌜ answered (λ h. h) r ≡ headerVerdict subscription (now (bytes .entry)) ⌝ }
     {
-        if !is_good_length(bytes) {
+        let [l0, l1, code, own_subscription, n0, n1, n2, n3, ..] = bytes else {
+            return Err(Refusal::PacketLength);
+        };
+        if !is_good_length(u16::from_be_bytes([*l0, *l1]), bytes.len()) {
             return Err(Refusal::PacketLength);
         }
-        if bytes[3] != subscription {
+        if *own_subscription != subscription {
             return Err(Refusal::OtherSubscription);
         }
-        let kind = PacketType::from_code(bytes[2]).ok_or(Refusal::PacketType)?;
-        let number = read_u32(bytes, 4);
+        let kind = PacketType::from_code(*code).ok_or(Refusal::PacketType)?;
+        let number = u32::from_be_bytes([*n0, *n1, *n2, *n3]);
         if !is_good_number(kind, number) {
             return Err(Refusal::NumberOutOfRange);
         }
@@ -68,22 +68,20 @@ fn is_good_number(kind: PacketType, number: u32) -> bool
 }
 
 // An M packet has a message, a heartbeat none.
-fn is_good_body(kind: PacketType, length: usize) -> bool
-    ensures { λ r. ⌜ r ≡ goodBody kind length ⌝ }
+fn is_good_body(kind: PacketType, len: usize) -> bool
+    ensures { λ r. ⌜ r ≡ goodBody kind len ⌝ }
 {
     match kind {
-        PacketType::Messages => length > HEADER_SIZE,
-        PacketType::Heartbeat => length == HEADER_SIZE,
+        PacketType::Messages => len > HEADER_SIZE,
+        PacketType::Heartbeat => len == HEADER_SIZE,
     }
 }
 
 // 8 to 8,192 bytes, as the length field says.
-fn is_good_length(bytes: &[u8]) -> bool
-    ensures { λ r. ⌜ r ≡ goodLength (now (bytes .entry)) ⌝ }
+fn is_good_length(said: u16, len: usize) -> bool
+    ensures { λ r. ⌜ r ≡ goodLength said len ⌝ }
 {
-    bytes.len() >= HEADER_SIZE
-        && bytes.len() <= LONGEST_PACKET
-        && read_u16(bytes, 0) as usize == bytes.len()
+    len >= HEADER_SIZE && len <= LONGEST_PACKET && said as usize == len
 }
 
 // A packet on the subscription that it was read for, without looking at its messages yet.
@@ -115,16 +113,20 @@ impl<'a> Packet<'a> {
         self.header
     }
 
-    // How many messages there are, or the refusal of the first broken one.
-    pub fn count(self) -> Result<usize, Refusal>
-        ensures { λ r. ⌜ answered (λ n. n) r ≡ counted (items (self .entry .header .subscription) 8 (drop 8 (now (self .entry .bytes)))) ⌝ }
+    // The item of an index among the messages, counted from 0: a message with its offset, or the refusal of a broken
+    // one, which is the last. None past the last.
+    pub fn message(self, index: usize) -> Option<Result<(usize, Message<'a>), Refusal>>
+        ensures item { λ r. ⌜ mapped itemOf r ≡ nth index (items (self .entry .header .subscription) 8 (drop 8 (now (self .entry .bytes)))) ⌝ }
+        ensures own { λ r. ⌜ found r (Cut (now (self .entry .bytes))) ⌝ }
     {
-        let mut count = 0;
+        let mut left = index;
         for item in self.messages() {
-            item?;
-            count += 1;
+            if left == 0 {
+                return Some(item);
+            }
+            left -= 1;
         }
-        Ok(count)
+        None
     }
 
     // The messages with their offsets in the packet; a broken one is the last item, as its refusal.
@@ -145,7 +147,7 @@ impl<'a> Packet<'a> {
 }
 
 // What is left of a packet's messages.
-#[derive(Clone, Copy)]
+#[derive(Drop)]
 pub struct Messages<'a> {
     packet: &'a [u8],
     at: usize,

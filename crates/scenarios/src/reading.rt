@@ -2,9 +2,9 @@
 use crate::made::EVENT;
 use crate::made::IMBALANCE;
 use crate::made::QUOTE;
-use feed::fields::EventForm;
-use feed::message::Message;
-use feed::read::read_message;
+use messages::fields::EventForm;
+use messages::message::Message;
+use messages::read::read_message;
 use std::test::*;
 
 // 0 where a message is read at offset 8, the returned number where it is refused there.

@@ -13,10 +13,10 @@ use encode::message::write_imbalance;
 use encode::message::write_quote;
 use encode::packet::write_heartbeat;
 use encode::packet::write_packet;
-use feed::fields::EventFields;
-use feed::fields::EventForm;
-use feed::fields::ImbalanceFields;
-use feed::fields::QuoteFields;
+use messages::fields::EventFields;
+use messages::fields::EventForm;
+use messages::fields::ImbalanceFields;
+use messages::fields::QuoteFields;
 use std::test::*;
 
 const SYMBOL: [u8; 8] = *b"MSQAJ\0\0\0";

@@ -1,6 +1,6 @@
 use mathlib.Core.Path.{sym}
 use mathlib.Core.List.{_++_}
-use Rattle.feed.specs.Content.{event}
+use Rattle.messages.specs.Content.{event}
 use Rattle.encode.specs.Encode.{encoded, writable}
 use Rattle.encode.specs.Typed.{TypedEvent}
 use Rattle.encode.proofs.Packings.{same-parts}

@@ -1,6 +1,6 @@
 use mathlib.Core.Path.{sym}
 use mathlib.Core.List.{_++_}
-use Rattle.feed.specs.Content.{imbalance}
+use Rattle.messages.specs.Content.{imbalance}
 use Rattle.encode.specs.Encode.{encoded, writable}
 use Rattle.encode.specs.Typed.{TypedImbalance}
 use Rattle.encode.proofs.Packings.{same-parts}

@@ -1,6 +1,6 @@
 use mathlib.Core.Path.{sym}
 use mathlib.Core.List.{_++_}
-use Rattle.feed.specs.Content.{quote}
+use Rattle.messages.specs.Content.{quote}
 use Rattle.encode.specs.Encode.{encoded, writable}
 use Rattle.encode.specs.Typed.{TypedQuote}
 use Rattle.encode.proofs.Packings.{same-parts}

@@ -5,7 +5,7 @@ use Rattle.std.proofs.shelf.Lists.{take-rest}
 use Rattle.std.proofs.shelf.Results.{err-from-errBy}
 use Rattle.std.proofs.shelf.Tests.{eqb-false}
 use Rattle.codes.specs.Refusals.{returned}
-use Rattle.feed.specs.Messages.{content}
+use Rattle.messages.specs.Messages.{content}
 use Rattle.encode.proofs.Packings.{fault-some, check-good, check-refused, check-end}
 use Rattle.encode.proofs.packet.check_messages.Needs as need
 

@@ -1,4 +1,6 @@
 use borrow.Author.Needs.{needs}
+use native.Mathlib.Omega.{arith}
+use Rattle.std.proofs.shelf.Ways.{tells}
 use Rattle.feed.specs.Packets.{headerVerdict}
 use Rattle.feed.proofs.packet.Header.read.Needs as need
 
@@ -6,9 +8,9 @@ pub returns-then-not-is-good-length : need.returns-then-not-is-good-length
 unfolding headerVerdict
 returns-then-not-is-good-length c = search needs
 
-pub returns-then-bytes-subscription : need.returns-then-bytes-subscription
+pub returns-then-own-subscription-subscription : need.returns-then-own-subscription-subscription
 unfolding headerVerdict
-returns-then-bytes-subscription c = search needs
+returns-then-own-subscription-subscription c = search needs
 
 pub returns-in-Break-kind : need.returns-in-Break-kind
 unfolding headerVerdict
@@ -21,3 +23,7 @@ returns-then-not-is-good-number c = search needs
 pub returns : need.returns
 unfolding headerVerdict
 returns c = search needs
+
+pub returns-in-rest : need.returns-in-rest
+unfolding headerVerdict
+returns-in-rest c = grind (arith, tells)

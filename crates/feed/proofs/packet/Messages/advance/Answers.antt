@@ -5,7 +5,7 @@ use mathlib.Core.List.{_∷_}
 use lib.ListN.{length}
 use Rattle.std.proofs.shelf.Lists.{take-rest}
 use Rattle.feed.specs.Items.{refused}
-use Rattle.feed.specs.Messages.{content}
+use Rattle.messages.specs.Messages.{content}
 use Rattle.codes.specs.Refusals.{returned}
 use Rattle.feed.proofs.Steps.{next-good, next-refused, next-none}
 use Rattle.feed.proofs.packet.Messages.advance.Needs as need

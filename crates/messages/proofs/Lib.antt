@@ -1,0 +1,5 @@
+pub mod Symbols
+pub mod Verdicts
+pub mod Layouts
+pub mod Readings
+pub mod Judgements
