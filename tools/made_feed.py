@@ -1,8 +1,8 @@
 #!/usr/bin/env python3
 """Writes the made-up feed that `decode` is run on, and the lines that it must print.
 
-It shares no code with the project: the bytes are put together here field by field, and each line
-is written out beside them by hand. Run it from the repository's root; it writes
+It shares no code with the project: the bytes are put together here field by field, and the lines
+are written out beside them from the same fields; nothing is read back. Run it from the repository's root; it writes
 crates/decode/stdin and crates/decode/stdout.
 """
 import struct
@@ -136,8 +136,9 @@ broken = [
 for n, bad in enumerate(broken):
     # what follows a broken message is not looked at
     say(packet(10 + n, good, bad, good), f"packet {{at}} M subscription 11 number {10 + n}", good_line, "  refused 5 at 52")
-# a length that cannot be right ends the feed
-say(struct.pack(">HcBI", 8_193, b"M", SUBSCRIPTION, 99) + b"\0" * 20, "packet {at} refused 1")
+# a length that cannot be right ends the feed, also where so many bytes are there: what follows is not printed
+say(struct.pack(">HcBI", 8_193, b"M", SUBSCRIPTION, 99) + event(300, 1, b"Z", b"L") * 186 + b"\0", "packet {at} refused 1")
+say(heartbeat(1))
 
 with open("crates/decode/stdin", "wb") as f:
     f.write(b"".join(feed))

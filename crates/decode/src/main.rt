@@ -2,26 +2,26 @@
 mod show;
 
 ghost use mathlib.Core.Path.{_≡_};
-ghost use Prim.Native.Nat.{_≤_};
-ghost use lib.ListN.{length};
-ghost use Rattle.std.specs.Options.{Cases as BySome};
-ghost use Rattle.messages.specs.Wire.{be16};
+ghost use Rattle.decode.specs.Lengths.{packetLength};
 use crate::show::show_packet;
+use feed::packet::LONGEST_PACKET;
+use messages::numbers::HEADER_SIZE;
 use std::io;
 use std::io::Read;
 
-// How long the first packet of `bytes` says it is, where that can be right.
+// How long the first packet of `bytes` says it is, where that can be right: 8 to 8,192 bytes, and all of them there.
 fn packet_length(bytes: &[u8]) -> Option<usize>
-    ensures { λ r. ⌜ BySome r (Unit {0}) (λ n. (n ≡ be16 (now (bytes .entry)) 0) × (8 ≤ n) × (n ≤ length (now (bytes .entry)))) ⌝ }
+    ensures { λ r. ⌜ r ≡ packetLength (now (bytes .entry)) ⌝ }
 {
     let [high, low, ..] = bytes else {
         return None;
     };
-    let length = u16::from_be_bytes([*high, *low]) as usize;
-    if length < 8 || length > 8192 || length > bytes.len() {
-        return None;
+    let said = u16::from_be_bytes([*high, *low]) as usize;
+    if said >= HEADER_SIZE && said <= LONGEST_PACKET && said <= bytes.len() {
+        Some(said)
+    } else {
+        None
     }
-    Some(length)
 }
 
 fn show_all(rt: &LibcRuntime, bytes: &[u8]) -> io::Result<()> {

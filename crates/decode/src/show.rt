@@ -1,5 +1,4 @@
 // A line for each packet and for each message, or for its refusal.
-use codes::packet::PacketType;
 use codes::refusal::Refusal;
 use feed::packet::MessagesIterator;
 use feed::packet::Packet;
@@ -40,20 +39,11 @@ pub fn show_packet(rt: &LibcRuntime, at: usize, bytes: &[u8]) -> io::Result<()> 
     };
     let header = packet.header();
     let number = header.number;
-    match header.kind {
-        PacketType::Messages => {
-            println!(
-                rt,
-                "packet {at} M subscription {subscription} number {number}"
-            )?;
-        }
-        PacketType::Heartbeat => {
-            println!(
-                rt,
-                "packet {at} B subscription {subscription} number {number}"
-            )?;
-        }
-    }
+    let code = char::from(header.kind.code());
+    println!(
+        rt,
+        "packet {at} {code} subscription {subscription} number {number}"
+    )?;
     for item in packet.messages() {
         match item {
             Ok((offset, message)) => show_message(rt, offset, message)?,

@@ -18,7 +18,8 @@ use Rattle.messages.proofs.Layouts.{number-passes}
 use Rattle.messages.proofs.Readings.{number-from}
 use Rattle.messages.proofs.Symbols.{symbol-passes, symbol-from}
 use Rattle.encode.specs.Encode.{headerBytes, namedBytes, quoteBytes, imbalanceBytes, eventBytes, encoded, nameable, writableForm, writable}
-use Rattle.encode.specs.Typed.{TypedQuote, TypedImbalance, TypedForm, Typed}
+use Rattle.encode.specs.Typed.{TypedForm}
+use Rattle.encode.proofs.Typed.{TypedQuote, TypedImbalance, Typed}
 use Rattle.encode.proofs.Numbers.{back16, back32, eight}
 
 -- fields that are laid out can be written

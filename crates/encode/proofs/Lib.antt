@@ -1,3 +1,4 @@
+pub mod Typed
 pub mod Numbers
 pub mod Laying
 pub mod Writes

@@ -16,7 +16,7 @@ use Rattle.messages.specs.Layout.{LaidMessage}
 use Rattle.messages.proofs.Judgements.{verdict-laid}
 use Rattle.feed.proofs.Steps.{laid-size}
 use Rattle.encode.specs.Encode.{encoded, writable}
-use Rattle.encode.specs.Typed.{Typed}
+use Rattle.encode.proofs.Typed.{Typed}
 use Rattle.encode.specs.Writing.{putAnswer, put, written, buffer, Wrote}
 use Rattle.encode.proofs.Laying.{laid-writable, encoded-laid}
 

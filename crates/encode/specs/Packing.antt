@@ -17,6 +17,7 @@ use Rattle.codes.specs.declared.packet.PacketType.the-variants.{Messages, Heart
 use Rattle.messages.specs.Content.{Content}
 use Rattle.feed.specs.Items.{Item, good, refused, items}
 use Rattle.feed.specs.Layout.{LaidMessages, LaidPacket, LaidHeartbeat}
+use Rattle.feed.specs.Agreement.{ReadPacket}
 use Rattle.feed.specs.Packets.{headed, packetVerdict}
 use Rattle.messages.specs.Verdict.{inRange}
 use Rattle.encode.specs.Encode.{headerBytes}
@@ -34,12 +35,12 @@ firstRefused [] = None
 firstRefused (good offset c ∷ is) = firstRefused is
 firstRefused (refused r ∷ is) = Some r
 
--- there is a message, and none is broken
+-- what is wrong with joined messages: there is none, or one is broken
 abbrev pub messagesFault : ℕ → List ℕ → Option Returned
 messagesFault subscription [] = Some (placed 5 8)
 messagesFault subscription (b ∷ bs) = firstRefused (items subscription 8 (b ∷ bs))
 
--- rows 1, 4 and 5, the uppermost first
+-- what is wrong with a packet: its length, its number, its messages, in this order
 unfoldable pub packetFault : (subscription number : ℕ) → List ℕ → Option Returned
 packetFault subscription number messages =
     cond (leb (length messages) 8184)
@@ -49,7 +50,7 @@ packetFault subscription number messages =
 abbrev pub heartbeatFault : ℕ → Option Returned
 heartbeatFault number = cond (leb number 4294967294) None (Some (alone 4))
 
--- bytes put into a buffer where nothing is at fault, else the buffer as it was
+-- the answer, and the buffer after it: bytes are put into it where nothing is at fault
 abbrev pub orFault : Option Returned → List ℕ → List ℕ → Result ℕ Returned
 orFault None own out = putAnswer (length own) out
 orFault (Some r) own out = Err r
@@ -61,16 +62,16 @@ putUnless (Some r) own out = out
 pub record WrotePacket (subscription number : ℕ) (messages before after : List ℕ) (answer : Result ℕ Returned) : Type 0 where
   pub answers : answer ≡ orFault (packetFault subscription number messages) (packetBytes subscription number messages) before
   pub leaves : after ≡ putUnless (packetFault subscription number messages) (packetBytes subscription number messages) before
-  -- what is written is a packet with those messages
+  -- what is written is a packet with those messages, and is read as its header and those messages, in order, at their
+  -- offsets
   pub laid : (contents : List Content) → LaidMessages subscription messages contents → answer ≡ Ok (8 + length messages) → LaidPacket subscription (take (8 + length messages) after) number contents
-  -- it is read as its header and those messages, in order, at their offsets
-  pub reads : answer ≡ Ok (8 + length messages) → packetVerdict subscription (take (8 + length messages) after) ≡ Ok (headed Messages subscription number)
-  pub messages-read : answer ≡ Ok (8 + length messages) → items subscription 8 (drop 8 (take (8 + length messages) after)) ≡ items subscription 8 messages
-  -- nothing is at fault exactly where the header and the messages make a packet
-  pub refuses : (packetFault subscription number messages ≡ None) ↔ ((contents : List Content) × LaidPacket subscription (packetBytes subscription number messages) number contents)
+  pub reads : (contents : List Content) → LaidMessages subscription messages contents → answer ≡ Ok (8 + length messages) → ReadPacket subscription (take (8 + length messages) after) (packetVerdict subscription (take (8 + length messages) after)) number contents
+  -- nothing but room is asked for, exactly where some bytes are a packet with this number and these messages
+  pub refuses : (answer ≡ putAnswer (8 + length messages) before) ↔ ((bytes : List ℕ) × (contents : List Content) × LaidPacket subscription bytes number contents × (drop 8 bytes ≡ messages))
 
 pub record WroteHeartbeat (subscription number : ℕ) (before after : List ℕ) (answer : Result ℕ Returned) : Type 0 where
   pub answers : answer ≡ orFault (heartbeatFault number) (packetHeader Heartbeat 8 subscription number) before
   pub leaves : after ≡ putUnless (heartbeatFault number) (packetHeader Heartbeat 8 subscription number) before
   pub laid : answer ≡ Ok 8 → LaidHeartbeat subscription (take 8 after) number
   pub reads : answer ≡ Ok 8 → packetVerdict subscription (take 8 after) ≡ Ok (headed Heartbeat subscription number)
+  pub refuses : (answer ≡ putAnswer 8 before) ↔ ((bytes : List ℕ) × LaidHeartbeat subscription bytes number)

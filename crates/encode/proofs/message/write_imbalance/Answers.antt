@@ -2,7 +2,7 @@ use mathlib.Core.Path.{sym}
 use mathlib.Core.List.{_++_}
 use Rattle.messages.specs.Content.{imbalance}
 use Rattle.encode.specs.Encode.{encoded, writable}
-use Rattle.encode.specs.Typed.{TypedImbalance}
+use Rattle.encode.proofs.Typed.{TypedImbalance}
 use Rattle.encode.proofs.Packings.{same-parts}
 use Rattle.encode.proofs.Writes.{wrote-refused, wrote-put}
 use Rattle.encode.proofs.message.write_imbalance.Needs as need

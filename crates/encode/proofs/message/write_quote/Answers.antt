@@ -2,7 +2,7 @@ use mathlib.Core.Path.{sym}
 use mathlib.Core.List.{_++_}
 use Rattle.messages.specs.Content.{quote}
 use Rattle.encode.specs.Encode.{encoded, writable}
-use Rattle.encode.specs.Typed.{TypedQuote}
+use Rattle.encode.proofs.Typed.{TypedQuote}
 use Rattle.encode.proofs.Packings.{same-parts}
 use Rattle.encode.proofs.Writes.{wrote-refused, wrote-put}
 use Rattle.encode.proofs.message.write_quote.Needs as need
