@@ -2,7 +2,6 @@
 use mathlib.Core.Path.{_≡_, refl, sym, ap, subst, _∙_}
 use mathlib.Core.Bool.{Bool, true, false, cond}
 use mathlib.Core.List.{List, [], _∷_}
-use mathlib.Core.Logic.{_↔_}
 use Prim.Native.Nat.{ℕ, zero, suc, _+_, _≤_, _<_}
 use native.Mathlib.Omega.{arith}
 use lib.Dec.{leb}
@@ -13,7 +12,7 @@ use Rattle.std.specs.declared.result.Result.{Result}
 use Rattle.std.specs.declared.result.Result.the-variants.{Ok, Err}
 use Rattle.std.proofs.shelf.Lists.{take-at}
 use Rattle.std.proofs.shelf.Tests.{cond-true, cond-false, leb-true, le-leb, lt-leb}
-use Rattle.codes.specs.Refusals.{Returned, alone, placed, numberOf}
+use Rattle.codes.specs.Refusals.{Returned, alone, numberOf}
 use Rattle.codes.specs.declared.packet.PacketType.the-variants.{Heartbeat}
 use Rattle.messages.specs.Content.{Content, size}
 use Rattle.feed.specs.Items.{good, itemThen, atMost, items, goods}

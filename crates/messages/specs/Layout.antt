@@ -1,9 +1,9 @@
 -- The layout: which field stands at which offset of a message or a packet. Bytes that no line names are reserved, and
 -- may hold anything.
 use mathlib.Core.Path.{_≡_}
-use mathlib.Core.List.{List, [], _∷_, _++_}
+use mathlib.Core.List.{List, _++_}
 use Prim.Native.Nat.{ℕ, _≤_, _<_}
-use lib.ListN.{length, drop, getD, replicate}
+use lib.ListN.{length, getD, replicate}
 use Rattle.codes.specs.Codes.{sideCode, levelNumber, auctionCode, seriesCode, underlyingCode}
 use Rattle.messages.specs.Content.{Content, quote, imbalance, event}
 use Rattle.messages.specs.Wire.{byte, be16, be32, part}

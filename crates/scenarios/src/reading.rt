@@ -2,139 +2,158 @@
 use crate::made::EVENT;
 use crate::made::IMBALANCE;
 use crate::made::QUOTE;
+use crate::made::told;
 use messages::fields::EventForm;
 use messages::message::Message;
 use messages::read::read_message;
 use std::test::*;
 
-// 0 where a message is read at offset 8, the returned number where it is refused there.
-fn answer(bytes: &[u8]) -> u8 {
-    match read_message(bytes, 11, 8) {
-        Ok(_) => 0,
-        Err(refusal) if refusal.place() == Some(8) => refusal.number(),
-        Err(_) => 255,
+// Whether a message is read; if not, it is refused with 5 at its offset.
+fn reads(bytes: &[u8]) -> Result<bool, Fail> {
+    match told(read_message(bytes, 11, 8)) {
+        Ok(_) => Ok(true),
+        Err(refused) => {
+            check_eq(refused, (5, Some(8)))?;
+            Ok(false)
+        }
     }
 }
 
-fn quote_with(at: usize, value: u8) -> u8 {
+fn quote_with(at: usize, value: u8) -> Result<bool, Fail> {
     let mut bytes = QUOTE;
     if at < 52 {
         bytes[at] = value;
     }
-    answer(&bytes)
+    reads(&bytes)
 }
 
-fn imbalance_with(at: usize, value: u8) -> u8 {
+fn imbalance_with(at: usize, value: u8) -> Result<bool, Fail> {
     let mut bytes = IMBALANCE;
     if at < 60 {
         bytes[at] = value;
     }
-    answer(&bytes)
+    reads(&bytes)
 }
 
-fn event_with(code: u8, reset: u8) -> u8 {
+fn event_with(code: u8, reset: u8) -> Result<bool, Fail> {
     let mut bytes = EVENT;
     bytes[42] = code;
     bytes[43] = reset;
-    answer(&bytes)
+    reads(&bytes)
 }
 
 // A number with these four bytes.
-fn numbered(a: u8, b: u8, c: u8, d: u8) -> u8 {
+fn numbered(a: u8, b: u8, c: u8, d: u8) -> Result<bool, Fail> {
     let mut bytes = QUOTE;
     bytes[8] = a;
     bytes[9] = b;
     bytes[10] = c;
     bytes[11] = d;
-    answer(&bytes)
+    reads(&bytes)
 }
 
 #[test]
 fn quotes() -> Result<(), Fail> {
     let table = [
-        (1usize, 51u8, 5u8),
-        (1, 53, 5),
-        (2, b'Q', 5),
-        (3, 12, 5),
-        (4, 255, 0),
-        (12, 255, 0),
-        (31, 255, 0),
-        (32, 32, 5),
-        (32, 33, 0),
-        (32, 126, 0),
-        (32, 127, 5),
-        (32, 0, 5),
-        (33, 0, 5),
-        (38, 1, 5),
-        (39, b'A', 5),
-        (40, 255, 0),
-        (41, b'S', 0),
-        (41, b'A', 5),
-        (42, 0, 5),
-        (42, 5, 0),
-        (42, 6, 5),
-        (43, 0, 5),
-        (43, 1, 0),
-        (43, 6, 5),
-        (44, 255, 0),
-        (51, 255, 0),
+        (1usize, 51u8, false),
+        (1, 53, false),
+        (2, b'Q', false),
+        (3, 12, false),
+        (4, 255, true),
+        (12, 255, true),
+        (31, 255, true),
+        (32, 32, false),
+        (32, 33, true),
+        (32, 126, true),
+        (32, 127, false),
+        (32, 0, false),
+        (33, 0, false),
+        (38, 1, false),
+        (39, b'A', false),
+        (40, 255, true),
+        (41, b'S', true),
+        (41, b'A', false),
+        (42, 0, false),
+        (42, 5, true),
+        (42, 6, false),
+        (43, 0, false),
+        (43, 1, true),
+        (43, 6, false),
+        (44, 255, true),
+        (51, 255, true),
     ];
     for (at, value, expected) in table {
-        check_eq(quote_with(at, value), expected)?;
+        check_eq(quote_with(at, value)?, expected)?;
     }
-    check_eq(numbered(0, 0, 0, 0), 5)?;
-    check_eq(numbered(255, 255, 255, 254), 0)?;
-    check_eq(numbered(255, 255, 255, 255), 5)
+    check(!numbered(0, 0, 0, 0)?)?;
+    check(numbered(255, 255, 255, 254)?)?;
+    check(!numbered(255, 255, 255, 255)?)
 }
 
 #[test]
 fn imbalances() -> Result<(), Fail> {
     // 9 * 256 + 96 is 2,400
     let table = [
-        (41usize, b'O', 0u8),
-        (41, b'M', 0),
-        (41, b'H', 0),
-        (41, b'C', 0),
-        (41, b'B', 5),
-        (42, 8, 0),
-        (42, 9, 5),
-        (43, 255, 0),
-        (59, 255, 0),
+        (41usize, b'O', true),
+        (41, b'M', true),
+        (41, b'H', true),
+        (41, b'C', true),
+        (41, b'B', false),
+        (42, 8, true),
+        (42, 9, false),
+        (43, 255, true),
+        (59, 255, true),
     ];
     for (at, value, expected) in table {
-        check_eq(imbalance_with(at, value), expected)?;
+        check_eq(imbalance_with(at, value)?, expected)?;
     }
     let mut bytes = IMBALANCE;
+    bytes[42] = 0;
+    bytes[43] = 0;
+    check(reads(&bytes)?)?;
     bytes[42] = 9;
     bytes[43] = 96;
-    check_eq(answer(&bytes), 0)?;
+    check(reads(&bytes)?)?;
     bytes[43] = 97;
-    check_eq(answer(&bytes), 5)
+    check(!reads(&bytes)?)
 }
 
 #[test]
 fn events() -> Result<(), Fail> {
     for code in *b"ABCLNOSTUXosux" {
-        check_eq(event_with(code, b'C'), 0)?;
-        check_eq(event_with(code, b'R'), 5)?;
+        check(event_with(code, b'C')?)?;
+        check(!event_with(code, b'R')?)?;
     }
     for code in *b"DEFGHIJKMPQRVWYZabcilt" {
-        check_eq(event_with(code, b'C'), 5)?;
+        check(!event_with(code, b'C')?)?;
     }
-    check_eq(event_with(b'I', b'R'), 0)?;
-    check_eq(event_with(b'I', b'r'), 5)
+    check(event_with(b'I', b'R')?)?;
+    check(!event_with(b'I', b'r')?)
+}
+
+#[test]
+fn symbol_of_eight_bytes() -> Result<(), Fail> {
+    let mut bytes = QUOTE;
+    bytes[37] = b'Z';
+    bytes[38] = b'Z';
+    bytes[39] = b'Z';
+    check(reads(&bytes)?)?;
+    bytes[39] = 0;
+    check(reads(&bytes)?)?;
+    bytes[36] = 0;
+    check(!reads(&bytes)?)
 }
 
 // Number and symbol of the reset and of an underlying's event are not read.
 #[test]
 fn events_without_a_number() -> Result<(), Fail> {
-    for (code, reset, expected) in [(b'I', b'R', 0u8), (b'o', b'C', 0), (b'O', b'C', 5)] {
+    for (code, reset, expected) in [(b'I', b'R', true), (b'o', b'C', true), (b'O', b'C', false)] {
         let mut bytes = EVENT;
         bytes[11] = 0;
         bytes[32] = 0;
         bytes[42] = code;
         bytes[43] = reset;
-        check_eq(answer(&bytes), expected)?;
+        check_eq(reads(&bytes)?, expected)?;
     }
     Ok(())
 }
@@ -142,13 +161,13 @@ fn events_without_a_number() -> Result<(), Fail> {
 #[test]
 fn cut_short() -> Result<(), Fail> {
     for length in 0..52usize {
-        check_eq(answer(&QUOTE[0..length]), 5)?;
+        check(!reads(&QUOTE[0..length])?)?;
     }
     for length in 0..60usize {
-        check_eq(answer(&IMBALANCE[0..length]), 5)?;
+        check(!reads(&IMBALANCE[0..length])?)?;
     }
     for length in 0..44usize {
-        check_eq(answer(&EVENT[0..length]), 5)?;
+        check(!reads(&EVENT[0..length])?)?;
     }
     Ok(())
 }
