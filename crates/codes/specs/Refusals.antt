@@ -41,7 +41,7 @@ abbrev pub answered : {A B : Type 0} → (A → B) → Result A Refusal → Resu
 answered tell (Ok value) = Ok (tell value)
 answered tell (Err refusal) = Err (returned refusal)
 
--- whether a check that answers nothing else refused
+-- the refusal of an answer, if it is one
 abbrev pub refusalOf : {A : Type 0} → Result A Refusal → Option Returned
 refusalOf (Ok value) = None
 refusalOf (Err refusal) = Some (returned refusal)

@@ -1,5 +1,5 @@
--- The layout: which field stands at which offset of a message or a packet. Bytes that no line names are reserved, and
--- may hold anything.
+-- The layout of messages: which field stands at which offset. Bytes that no line names are not read, and may hold
+-- anything.
 use mathlib.Core.Path.{_≡_}
 use mathlib.Core.List.{List, _++_}
 use Prim.Native.Nat.{ℕ, _≤_, _<_}
