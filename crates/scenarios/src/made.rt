@@ -2,7 +2,7 @@
 use codes::refusal::Refusal;
 
 // A value, or the returned number with its offset or index.
-pub fn told<T>(answer: Result<T, Refusal>) -> Result<T, (u8, Option<usize>)> {
+pub(crate) fn told<T>(answer: Result<T, Refusal>) -> Result<T, (u8, Option<usize>)> {
     match answer {
         Ok(value) => Ok(value),
         Err(refusal) => Err((refusal.number(), refusal.place())),
