@@ -17,7 +17,8 @@ use Rattle.messages.specs.declared.fields.EventForm.the-variants.{Numbered, Und
 use Rattle.messages.proofs.Layouts.{number-passes}
 use Rattle.messages.proofs.Readings.{number-from}
 use Rattle.messages.proofs.Symbols.{symbol-passes, symbol-from}
-use Rattle.encode.specs.Encode.{headerBytes, namedBytes, quoteBytes, imbalanceBytes, eventBytes, encoded, nameable, writableForm, writable}
+use Rattle.messages.specs.Verdict.{nameable}
+use Rattle.encode.specs.Encode.{headerBytes, namedBytes, quoteBytes, imbalanceBytes, eventBytes, encoded, writableForm, writable}
 use Rattle.encode.specs.Typed.{TypedForm}
 use Rattle.encode.proofs.Typed.{TypedQuote, TypedImbalance, Typed}
 use Rattle.encode.proofs.Numbers.{back16, back32, eight}

@@ -8,8 +8,7 @@ use Rattle.codes.specs.Codes.{sideCode, levelNumber, auctionCode, eventByte, re
 use Rattle.codes.specs.declared.event.EventCode.{EventCode}
 use Rattle.codes.specs.declared.event.EventCode.the-variants as both
 use Rattle.messages.specs.Content.{Content, quote, imbalance, event}
-use Rattle.messages.specs.Symbols.{wellFormed}
-use Rattle.messages.specs.Verdict.{inRange}
+use Rattle.messages.specs.Verdict.{nameable}
 use Rattle.messages.specs.declared.fields.QuoteFields.{QuoteFields}
 use Rattle.messages.specs.declared.fields.ImbalanceFields.{ImbalanceFields}
 use Rattle.messages.specs.declared.fields.EventFields.{EventFields}
@@ -69,9 +68,6 @@ encoded subscription (imbalance i) = imbalanceBytes subscription i
 encoded subscription (event e) = eventBytes subscription e
 
 -- whether the fields can be written: a number in its range, a well-formed symbol, a time up to 2400
-abbrev pub nameable : ℕ → List ℕ → Bool
-nameable number symbol = inRange number && wellFormed symbol
-
 abbrev pub writableForm : EventForm → Bool
 writableForm (Numbered number symbol code) = nameable number symbol
 writableForm (Underlying code) = true

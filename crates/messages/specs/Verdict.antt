@@ -32,9 +32,13 @@ use Rattle.messages.specs.declared.fields.EventForm.the-variants as form
 abbrev pub inRange : ℕ → Bool
 inRange number = leb 1 number && leb number 4294967294
 
--- number and symbol
+-- a number and a symbol that a message can carry
+abbrev pub nameable : ℕ → List ℕ → Bool
+nameable number symbol = inRange number && wellFormed symbol
+
+-- those of a message's own bytes
 abbrev pub named : List ℕ → Bool
-named own = inRange (be32 own 8) && wellFormed (part own 32 8)
+named own = nameable (be32 own 8) (part own 32 8)
 
 abbrev pub sideAt : List ℕ → ℕ → Option Side
 sideAt own at = coded sideCode sides (byte own at)
