@@ -1,4 +1,6 @@
 // The codes of the feed and the returned numbers, as enums.
+#![tactic(auto)]
+
 pub mod auction;
 pub mod event;
 pub mod kind;

@@ -1,4 +1,6 @@
 // Prints packets and their messages: of a feed, where they follow one another, or of a session file.
+#![tactic(auto)]
+
 mod show;
 
 ghost use Rattle.std.specs.Prelude.{◌≡◌};

@@ -1,4 +1,6 @@
 // Kinds of record: what is kept of a series, and what a message makes of it.
+#![tactic(auto)]
+
 pub mod book;
 pub mod depth;
 pub mod imbalance;

@@ -1,4 +1,6 @@
 // A caller that lends its slots to a session, lets the session go, and knows what its slots hold.
+#![tactic(auto)]
+
 ghost use Rattle.std.specs.Prelude.{◌≡◌};
 ghost use Rattle.runs.specs.States.{opened, delivered};
 ghost use Rattle.runs.specs.Watching.{named};

@@ -1,4 +1,6 @@
 // The messages of the feed, read from bytes without copying them.
+#![tactic(auto)]
+
 pub mod fields;
 pub mod message;
 pub mod numbers;

@@ -1,4 +1,6 @@
 // Where missing packets come from: stores of packets by number.
+#![tactic(auto)]
+
 pub mod first_else;
 pub mod store;
 pub mod stores;

@@ -1,1 +1,3 @@
 // The rules of a session, and what holds of them.
+#![tactic(auto)]
+

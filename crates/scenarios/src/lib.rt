@@ -1,4 +1,6 @@
 // The worked scenarios, proved as one table, and the larger tests. The expected values are worked out by hand from the rules.
+#![tactic(auto)]
+
 #[cfg(test)]
 mod books;
 #[cfg(test)]

@@ -1,4 +1,6 @@
 // A session over slots that are lent to it.
+#![tactic(auto)]
+
 mod check;
 mod progress;
 pub mod session;

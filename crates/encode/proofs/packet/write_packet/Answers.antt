@@ -10,23 +10,23 @@ returns-then-messages c =
     let messages = c.args.messages.now in
     packet_refused c.args.subscription c.args.number messages c.args.out.now (alone 1) (fault_length c.args.subscription c.args.number messages (omega arith))
 
-pub returns-then-not-in-range : goal.returns-then-not-in-range
-returns-then-not-in-range c =
+pub returns-then-not-in_range : goal.returns-then-not-in_range
+returns-then-not-in_range c =
     let messages = c.args.messages.now in
-    packet_refused c.args.subscription c.args.number messages c.args.out.now (alone 4) (fault_number c.args.subscription c.args.number messages (omega arith) (sym c.if-not-in-range.ensures))
+    packet_refused c.args.subscription c.args.number messages c.args.out.now (alone 4) (fault_number c.args.subscription c.args.number messages (omega arith) (sym c.if-not-in_range.ensures))
 
-pub returns-in-err-check-messages : goal.returns-in-err-check-messages
-returns-in-err-check-messages c =
+pub returns-in_err-check_messages : goal.returns-in_err-check_messages
+returns-in_err-check_messages c =
     let messages = c.args.messages.now in
-    let p = err_from_is_err_and c.from-residual.result c.from-residual.ensures.1 in
-    let r = returned c.in-err-check-messages.field-0.0 in
-    rw (p.1, p.2) (packet_refused c.args.subscription c.args.number messages c.args.out.now r (fault_messages c.args.subscription c.args.number messages (omega arith) (Some r) (sym c.if-not-in-range.ensures) c.in-err-check-messages.ensures))
+    let p = err_from_is_err_and c.from_residual.result c.from_residual.ensures.1 in
+    let r = returned c.in_err-check_messages.field-0.0 in
+    rw (p.1, p.2) (packet_refused c.args.subscription c.args.number messages c.args.out.now r (fault_messages c.args.subscription c.args.number messages (omega arith) (Some r) (sym c.if-not-in_range.ensures) c.in_err-check_messages.ensures))
 
 pub returns : goal.returns
 returns c =
     let sub = c.args.subscription in
     let number = c.args.number in
     let messages = c.args.messages.now in
-    let header = c.header-bytes-header.result in
-    let is = append-nil (header ++ messages) ∙ ap (λ (h : List ℕ). h ++ messages) (c.header-bytes-header.ensures.bytes ∙ ap (λ k. header_bytes (8 + length messages) k sub number) c.code.ensures) in
-    packet_put sub number messages c.args.out.now _ (header ++ messages ++ []) _ (fault_messages sub number messages (omega arith) None (sym c.if-not-in-range.ensures) c.in-ok-check-messages.ensures) is c.put-parts.ensures.answer c.put-parts.ensures.after
+    let header = c.header_bytes-header.result in
+    let is = append-nil (header ++ messages) ∙ ap (λ (h : List ℕ). h ++ messages) (c.header_bytes-header.ensures.bytes ∙ ap (λ k. header_bytes (8 + length messages) k sub number) c.code.ensures) in
+    packet_put sub number messages c.args.out.now _ (header ++ messages ++ []) _ (fault_messages sub number messages (omega arith) None (sym c.if-not-in_range.ensures) c.in_ok-check_messages.ensures) is c.put_parts.ensures.answer c.put_parts.ensures.after

@@ -30,9 +30,9 @@ returns c =
     record {
       answer = answer_whole (header ++ middle ++ tail) out n own c.if-length-out.false;
       after =
-          ap (λ (l : List ℕ). put_mid end (n - end) (put_mid 8 (end - 8) (l ++ drop 8 out) c.copy-from-slice-2.new.self) c.copy-from-slice-3.new.self) c.copy-from-slice.ensures.after
-          ∙ ap (λ (l : List ℕ). put_mid end (n - end) (put_mid 8 (end - 8) (header ++ drop 8 out) l) c.copy-from-slice-3.new.self) c.copy-from-slice-2.ensures.after
-          ∙ ap (λ (l : List ℕ). put_mid end (n - end) (put_mid 8 (end - 8) (header ++ drop 8 out) middle) l) c.copy-from-slice-3.ensures.after
+          ap (λ (l : List ℕ). put_mid end (n - end) (put_mid 8 (end - 8) (l ++ drop 8 out) c.copy_from_slice-2.new.self) c.copy_from_slice-3.new.self) c.copy_from_slice.ensures.after
+          ∙ ap (λ (l : List ℕ). put_mid end (n - end) (put_mid 8 (end - 8) (header ++ drop 8 out) l) c.copy_from_slice-3.new.self) c.copy_from_slice-2.ensures.after
+          ∙ ap (λ (l : List ℕ). put_mid end (n - end) (put_mid 8 (end - 8) (header ++ drop 8 out) middle) l) c.copy_from_slice-3.ensures.after
           ∙ ap (λ (l : List ℕ). put_mid end (n - end) l tail) (put_next header middle out 8 end (omega arith) refl)
           ∙ put_next (header ++ middle) tail out end n (front_length header middle (omega arith)) refl
           ∙ out_whole (header ++ middle ++ tail) out n own c.if-length-out.false;

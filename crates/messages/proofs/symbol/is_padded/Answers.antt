@@ -1,15 +1,15 @@
 use Rattle.std.proofs.Common.{sym, ◌∙◌, arith}
 use Rattle.messages.proofs.Symbols.{padded_on, padded_off, nulls_on, nulls_end}
 use Rattle.messages.proofs.symbol.is_padded.Goals as goal
-use Rattle.messages.proofs.symbol.is_padded.Goals.{then-name-test+else-is-printable, else-name-test, then-nulls-test+else-field-i-eq0, else-nulls-test}
+use Rattle.messages.proofs.symbol.is_padded.Goals.{then-name-test+else-is_printable, else-name-test, then-nulls-test+else-field-i-eq0, else-nulls-test}
 
 pub name-preserved : goal.name-preserved
-name-preserved c = (omega arith, sym (padded_on _ _ c.name-test.true (sym c.if-is-printable.ensures)) ∙ c.name.invariant.1)
+name-preserved c = (omega arith, sym (padded_on _ _ c.name-test.true (sym c.if-is_printable.ensures)) ∙ c.name.invariant.1)
 
 pub nulls-init : goal.nulls-init
 nulls-init c = (
   c.name.invariant.0,
-  sym (padded_off c.args.field.now c.name.i (elim c.name-test.branch [ then-name-test+else-is-printable w ↦ λ _. sym w.if-is-printable.ensures | else-name-test w ↦ λ h. absurd (omega (arith, w.name-test.false)) ])) ∙ c.name.invariant.1,
+  sym (padded_off c.args.field.now c.name.i (elim c.name-test.branch [ then-name-test+else-is_printable w ↦ λ _. sym w.if-is_printable.ensures | else-name-test w ↦ λ h. absurd (omega (arith, w.name-test.false)) ])) ∙ c.name.invariant.1,
 )
 
 pub nulls-preserved : goal.nulls-preserved

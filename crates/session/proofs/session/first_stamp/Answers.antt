@@ -4,8 +4,8 @@ use Rattle.feed.specs.Pending.{item_of}
 use Rattle.session.proofs.Stamps.{stamp_if, first_stamp}
 use Rattle.session.proofs.session.first_stamp.Goals as goal
 
-pub returns-in-default : goal.returns-in-default
-returns-in-default c = ap stamp_if c.in-default.ensures.item ∙ first_stamp (items c.args.packet.header.subscription 8 (drop 8 c.args.packet.bytes.now))
+pub returns-in_default : goal.returns-in_default
+returns-in_default c = ap stamp_if c.in_default.ensures.item ∙ first_stamp (items c.args.packet.header.subscription 8 (drop 8 c.args.packet.bytes.now))
 
 pub returns-in-Ok : goal.returns-in-Ok
 returns-in-Ok c =

@@ -11,26 +11,26 @@ returns-then-cells-eq0 c =
       short = tt;
     }
 
-pub returns-then-is-packet : goal.returns-then-is-packet
-returns-then-is-packet c =
-    let t = c.if-is-packet.ensures in
+pub returns-then-is_packet : goal.returns-then-is_packet
+returns-then-is_packet c =
+    let t = c.if-is_packet.ensures in
     let area = c.args.area.now in
-    let e = c.packet-in-packet.ensures ∙ ap (λ (s : ℕ). cell area s) c.cell-after.ensures.0 in
+    let e = c.packet_in-packet.ensures ∙ ap (λ (s : ℕ). cell area s) c.cell_after.ensures.0 in
     record {
       finds =
           ap (λ (p : List ℕ). Some p) e
-          ∙ sym (find_here area (length area / 8192) c.first-cell-start.result c.loop-i.i c.min-held.result c.args.subscription c.args.number c.loop-i-test.true (t ∙ ap (λ (p : List ℕ). carries c.args.subscription c.args.number p) e))
+          ∙ sym (find_here area (length area / 8192) c.first_cell-start.result c.loop-i.i c.min-held.result c.args.subscription c.args.number c.loop-i-test.true (t ∙ ap (λ (p : List ℕ). carries c.args.subscription c.args.number p) e))
           ∙ c.loop-i.invariant
-          ∙ find_all area c.args.first c.args.count c.first-cell-start.result c.min-held.result c.args.subscription c.args.number c.first-cell-start.ensures.0 c.min-held.ensures;
-      short = carries_short c.args.subscription c.args.number c.packet-in-packet.result.now t;
+          ∙ find_all area c.args.first c.args.count c.first_cell-start.result c.min-held.result c.args.subscription c.args.number c.first_cell-start.ensures.0 c.min-held.ensures;
+      short = carries_short c.args.subscription c.args.number c.packet_in-packet.result.now t;
     }
 
 pub loop-i-preserved : goal.loop-i-preserved
 loop-i-preserved c =
-    let t = c.if-is-packet.ensures in
+    let t = c.if-is_packet.ensures in
     let area = c.args.area.now in
-    let e = c.packet-in-packet.ensures ∙ ap (λ (s : ℕ). cell area s) c.cell-after.ensures.0 in
-    sym (find_next area (length area / 8192) c.first-cell-start.result c.loop-i.i c.min-held.result c.args.subscription c.args.number c.loop-i-test.true (t ∙ ap (λ (p : List ℕ). carries c.args.subscription c.args.number p) e))
+    let e = c.packet_in-packet.ensures ∙ ap (λ (s : ℕ). cell area s) c.cell_after.ensures.0 in
+    sym (find_next area (length area / 8192) c.first_cell-start.result c.loop-i.i c.min-held.result c.args.subscription c.args.number c.loop-i-test.true (t ∙ ap (λ (p : List ℕ). carries c.args.subscription c.args.number p) e))
     ∙ c.loop-i.invariant
 
 pub returns : goal.returns
@@ -39,8 +39,8 @@ returns c =
     let z : 0 ≡ c.min-held.result - c.loop-i.i = omega arith in
     record {
       finds =
-          ap (λ (k : ℕ). holding c.args.subscription (row area (length area / 8192) c.first-cell-start.result c.loop-i.i k) c.args.number) z
+          ap (λ (k : ℕ). holding c.args.subscription (row area (length area / 8192) c.first_cell-start.result c.loop-i.i k) c.args.number) z
           ∙ c.loop-i.invariant
-          ∙ find_all area c.args.first c.args.count c.first-cell-start.result c.min-held.result c.args.subscription c.args.number c.first-cell-start.ensures.0 c.min-held.ensures;
+          ∙ find_all area c.args.first c.args.count c.first_cell-start.result c.min-held.result c.args.subscription c.args.number c.first_cell-start.ensures.0 c.min-held.ensures;
       short = tt;
     }

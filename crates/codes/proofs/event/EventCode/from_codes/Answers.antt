@@ -13,8 +13,8 @@ returns-else-reset-eq82 c = let e = event_other c.args.event c.args.reset c.if-r
 pub returns-in-Some : goal.returns-in-Some
 returns-in-Some c = sym (ap (event_code c.args.event) c.if-reset-ne67.false ∙ event_series c.args.event c.in-Some.code (sym c.in-Some.ensures))
 
-pub returns-in-Some-from-code : goal.returns-in-Some-from-code
-returns-in-Some-from-code c = sym (ap (event_code c.args.event) c.if-reset-ne67.false ∙ event_underlying c.args.event c.in-Some-from-code.code (sym c.in-None.ensures) (sym c.in-Some-from-code.ensures))
+pub returns-in-Some-from_code : goal.returns-in-Some-from_code
+returns-in-Some-from_code c = sym (ap (event_code c.args.event) c.if-reset-ne67.false ∙ event_underlying c.args.event c.in-Some-from_code.code (sym c.in-None.ensures) (sym c.in-Some-from_code.ensures))
 
-pub returns-in-None-from-code : goal.returns-in-None-from-code
-returns-in-None-from-code c = sym (ap (event_code c.args.event) c.if-reset-ne67.false ∙ event_none c.args.event (sym c.in-None.ensures) (sym c.in-None-from-code.ensures))
+pub returns-in-None-from_code : goal.returns-in-None-from_code
+returns-in-None-from_code c = sym (ap (event_code c.args.event) c.if-reset-ne67.false ∙ event_none c.args.event (sym c.in-None.ensures) (sym c.in-None-from_code.ensures))

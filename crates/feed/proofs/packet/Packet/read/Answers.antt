@@ -3,18 +3,18 @@ use Rattle.std.proofs.lemmas.Result.{err_from_is_err_and}
 use Rattle.feed.proofs.Agreements.{packets_at, heartbeats_at, verdict_refused, verdict_body}
 use Rattle.feed.proofs.packet.Packet.read.Goals as goal
 
-pub returns-in-err-header : goal.returns-in-err-header
-returns-in-err-header c =
-    let p = err_from_is_err_and c.from-residual.result c.from-residual.ensures.1 in
-    let v = verdict_refused c.args.subscription c.args.bytes.now _ c.in-err-header.ensures in
+pub returns-in_err-header : goal.returns-in_err-header
+returns-in_err-header c =
+    let p = err_from_is_err_and c.from_residual.result c.from_residual.ensures.1 in
+    let v = verdict_refused c.args.subscription c.args.bytes.now _ c.in_err-header.ensures in
     rw (p.1, p.2) record { verdict = v; packets = packets_at _ _ _ v; heartbeats = heartbeats_at _ _ _ v; bytes = tt }
 
-pub returns-then-not-is-good-body : goal.returns-then-not-is-good-body
-returns-then-not-is-good-body c =
-    let v = verdict_body c.args.subscription c.args.bytes.now c.in-ok-header.header false c.in-ok-header.ensures c.if-not-is-good-body.ensures in
+pub returns-then-not-is_good_body : goal.returns-then-not-is_good_body
+returns-then-not-is_good_body c =
+    let v = verdict_body c.args.subscription c.args.bytes.now c.in_ok-header.header false c.in_ok-header.ensures c.if-not-is_good_body.ensures in
     record { verdict = v; packets = packets_at _ _ _ v; heartbeats = heartbeats_at _ _ _ v; bytes = tt }
 
 pub returns : goal.returns
 returns c =
-    let v = verdict_body c.args.subscription c.args.bytes.now c.in-ok-header.header true c.in-ok-header.ensures c.if-not-is-good-body.ensures in
+    let v = verdict_body c.args.subscription c.args.bytes.now c.in_ok-header.header true c.in_ok-header.ensures c.if-not-is_good_body.ensures in
     record { verdict = v; packets = packets_at _ _ _ v; heartbeats = heartbeats_at _ _ _ v; bytes = refl }

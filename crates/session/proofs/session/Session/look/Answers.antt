@@ -6,5 +6,5 @@ use Rattle.session.proofs.session.Session.look.Goals as goal
 pub returns : goal.returns
 returns g c =
     let k = g.K.Kind in
-    let answer = c.find-and-show.ensures in
-    record { answer = answer; law = look_law k.meaning (state k.shows c.args.self.now) c.args.symbol.now (answered (seen_by k.shows) c.find-and-show.result) answer }
+    let answer = c.find_and_show.ensures in
+    record { answer = answer; law = look_law k.meaning (state k.shows c.args.self.now) c.args.symbol.now (answered (seen_by k.shows) c.find_and_show.result) answer }

@@ -9,35 +9,35 @@ use Rattle.sessionfile.proofs.Faults.{law_at}
 use Rattle.sessionfile.proofs.Opening.{read_header, refused_header, refused_packets, refused_symbols, all_checked, opened, given_entries, given_symbols_lem}
 use Rattle.sessionfile.proofs.file.SessionFile.open.Goals as goal
 
-pub returns-in-err-header : goal.returns-in-err-header
-returns-in-err-header c =
+pub returns-in_err-header : goal.returns-in_err-header
+returns-in_err-header c =
     let file = c.args.bytes.now in
-    let p = err_from_is_err_and c.from-residual.result c.from-residual.ensures.1 in
-    let v = refused_header file _ c.in-err-header.ensures in
+    let p = err_from_is_err_and c.from_residual.result c.from_residual.ensures.1 in
+    let v = refused_header file _ c.in_err-header.ensures in
     rw (p.1, p.2) record { verdict = v; law = law_at file _ v; bytes = tt; entries = tt; symbols = tt; holds = tt }
 
-pub returns-in-err-check-packets : goal.returns-in-err-check-packets
-returns-in-err-check-packets c =
+pub returns-in_err-check_packets : goal.returns-in_err-check_packets
+returns-in_err-check_packets c =
     let file = c.args.bytes.now in
-    let h = c.in-ok-header.header in
-    let p = err_from_is_err_and c.from-residual-in-err-check-packets.result c.from-residual-in-err-check-packets.ensures.1 in
-    let v = refused_packets file h (read_header file h c.in-ok-header.ensures) _ c.in-err-check-packets.ensures in
+    let h = c.in_ok-header.header in
+    let p = err_from_is_err_and c.from_residual-in_err-check_packets.result c.from_residual-in_err-check_packets.ensures.1 in
+    let v = refused_packets file h (read_header file h c.in_ok-header.ensures) _ c.in_err-check_packets.ensures in
     rw (p.1, p.2) record { verdict = v; law = law_at file _ v; bytes = tt; entries = tt; symbols = tt; holds = tt }
 
-pub returns-in-err-check-symbols : goal.returns-in-err-check-symbols
-returns-in-err-check-symbols c =
+pub returns-in_err-check_symbols : goal.returns-in_err-check_symbols
+returns-in_err-check_symbols c =
     let file = c.args.bytes.now in
-    let h = c.in-ok-header.header in
-    let p = err_from_is_err_and c.from-residual-in-err-check-symbols.result c.from-residual-in-err-check-symbols.ensures.1 in
-    let v = refused_symbols file h (read_header file h c.in-ok-header.ensures) c.in-ok-check-packets.ensures _ c.in-err-check-symbols.ensures in
+    let h = c.in_ok-header.header in
+    let p = err_from_is_err_and c.from_residual-in_err-check_symbols.result c.from_residual-in_err-check_symbols.ensures.1 in
+    let v = refused_symbols file h (read_header file h c.in_ok-header.ensures) c.in_ok-check_packets.ensures _ c.in_err-check_symbols.ensures in
     rw (p.1, p.2) record { verdict = v; law = law_at file _ v; bytes = tt; entries = tt; symbols = tt; holds = tt }
 
 pub returns : goal.returns
 returns c =
     let file = c.args.bytes.now in
-    let h = c.in-ok-header.header in
-    let read = read_header file h c.in-ok-header.ensures in
-    let f = all_checked file h read c.in-ok-check-packets.ensures c.in-ok-check-symbols.ensures in
+    let h = c.in_ok-header.header in
+    let read = read_header file h c.in_ok-header.ensures in
+    let f = all_checked file h read c.in_ok-check_packets.ensures c.in_ok-check_symbols.ensures in
     let v = opened file h read f in
     let all = given_entries file h read f in
     record {

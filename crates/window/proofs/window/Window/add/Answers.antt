@@ -15,14 +15,14 @@ returns-then-count-cells c =
     let w = c.args.self.now in
     let area = w.area.now in
     let packet = c.args.packet.now in
-    let t = c.cell-after-at.result in
+    let t = c.cell_after-at.result in
     let k = t * 8192 + length packet - t * 8192 in
     let is : k ≡ length packet = omega arith in
     record {
       keeps =
-          ap (λ (ys : List ℕ). packets_in (put_mid (t * 8192) k area ys) c.first-cell-first.result (c.min-count.result + 1)) c.copy-from-slice.ensures.after
-          ∙ add_free area packet k is (whole packet c.requires) w.first w.count c.first-cell-first.result c.min-count.result t (length area / 8192)
-          refl c.first-cell-first.ensures.0 c.first-cell-first.ensures.1 (omega arith) c.if-count-cells.true c.cell-after-at.ensures.0;
+          ap (λ (ys : List ℕ). packets_in (put_mid (t * 8192) k area ys) c.first_cell-first.result (c.min-count.result + 1)) c.copy_from_slice.ensures.after
+          ∙ add_free area packet k is (whole packet c.requires) w.first w.count c.first_cell-first.result c.min-count.result t (length area / 8192)
+          refl c.first_cell-first.ensures.0 c.first_cell-first.ensures.1 (omega arith) c.if-count-cells.true c.cell_after-at.ensures.0;
       subscription = refl;
       length = search rules;
       lent = refl;
@@ -33,14 +33,14 @@ returns-else-count-cells c =
     let w = c.args.self.now in
     let area = w.area.now in
     let packet = c.args.packet.now in
-    let t = c.cell-after-at.result in
+    let t = c.cell_after-at.result in
     let k = t * 8192 + length packet - t * 8192 in
     let is : k ≡ length packet = omega arith in
     record {
       keeps =
-          ap (λ (ys : List ℕ). packets_in (put_mid (t * 8192) k area ys) c.cell-after-self.result (length area / 8192)) c.copy-from-slice.ensures.after
-          ∙ add_full area packet k is (whole packet c.requires) w.first w.count c.first-cell-first.result c.min-count.result t (length area / 8192) c.cell-after-self.result
-          refl c.first-cell-first.ensures.0 c.first-cell-first.ensures.1 (omega arith) c.if-count-cells.false c.cell-after-at.ensures.0 c.cell-after-self.ensures.0;
+          ap (λ (ys : List ℕ). packets_in (put_mid (t * 8192) k area ys) c.cell_after-self.result (length area / 8192)) c.copy_from_slice.ensures.after
+          ∙ add_full area packet k is (whole packet c.requires) w.first w.count c.first_cell-first.result c.min-count.result t (length area / 8192) c.cell_after-self.result
+          refl c.first_cell-first.ensures.0 c.first_cell-first.ensures.1 (omega arith) c.if-count-cells.false c.cell_after-at.ensures.0 c.cell_after-self.ensures.0;
       subscription = refl;
       length = search rules;
       lent = refl;
