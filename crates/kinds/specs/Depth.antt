@@ -28,10 +28,10 @@ step ns (quote q) = on_side 10 q.side (side_after q) ns
 step ns (imbalance i) = ns
 step ns (event e) = cleared 10 e.form ns
 
-pub law : (c : Content) → book_settles c ≡ true → (r r' : List ℕ) → step r c ≡ step r' c
-law (quote q) e r r' = absurd (false≢true e)
-law (imbalance i) e r r' = absurd (false≢true e)
-law (event e) s r r' = clears_same 10 e.form s r r'
-
 abbrev pub depth : Meaning
 depth = record { empty = replicate 20 0; belongs = belongs; settles = book_settles; step = step; law = law }
+  where
+    law : (c : Content) → book_settles c ≡ true → (r r' : List ℕ) → step r c ≡ step r' c
+    law (quote q) e r r' = absurd (false≢true e)
+    law (imbalance i) e r r' = absurd (false≢true e)
+    law (event e) s r r' = clears_same 10 e.form s r r'

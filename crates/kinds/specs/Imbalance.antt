@@ -32,10 +32,10 @@ step ns (quote q) = ns
 step ns (imbalance i) = said i
 step ns (event e) = ns
 
-pub law : (c : Content) → is_imbalance c ≡ true → (r r' : List ℕ) → step r c ≡ step r' c
-law (quote q) e r r' = absurd (false≢true e)
-law (imbalance i) e r r' = refl
-law (event e) s r r' = absurd (false≢true s)
-
 abbrev pub imbalance_meaning : Meaning
 imbalance_meaning = record { empty = replicate 6 0; belongs = is_imbalance; settles = is_imbalance; step = step; law = law }
+  where
+    law : (c : Content) → is_imbalance c ≡ true → (r r' : List ℕ) → step r c ≡ step r' c
+    law (quote q) e r r' = absurd (false≢true e)
+    law (imbalance i) e r r' = refl
+    law (event e) s r r' = absurd (false≢true s)

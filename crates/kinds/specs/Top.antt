@@ -32,10 +32,10 @@ step ns (quote q) = after_quote q ns
 step ns (imbalance i) = ns
 step ns (event e) = cleared 2 e.form ns
 
-pub law : (c : Content) → book_settles c ≡ true → (r r' : List ℕ) → step r c ≡ step r' c
-law (quote q) e r r' = absurd (false≢true e)
-law (imbalance i) e r r' = absurd (false≢true e)
-law (event e) s r r' = clears_same 2 e.form s r r'
-
 abbrev pub top : Meaning
 top = record { empty = replicate 4 0; belongs = belongs; settles = book_settles; step = step; law = law }
+  where
+    law : (c : Content) → book_settles c ≡ true → (r r' : List ℕ) → step r c ≡ step r' c
+    law (quote q) e r r' = absurd (false≢true e)
+    law (imbalance i) e r r' = absurd (false≢true e)
+    law (event e) s r r' = clears_same 2 e.form s r r'

@@ -7,7 +7,7 @@ use Rattle.std.specs.Str.{bytes_eq}
 use Rattle.std.proofs.lemmas.Bool.{eqb-true, eq-eqb, ltb-true, ltb-false, lt-ltb, cases_lt, and_left, and_right}
 use Rattle.codes.specs.Refusals.{Returned, alone}
 use Rattle.kinds.specs.Meaning.{Meaning}
-use Rattle.runs.specs.Taking.{Numbered, Slot, taken, fresh, stale}
+use Rattle.runs.specs.Taking.{Numbered, Slot, taken, fresh}
 use Rattle.runs.specs.Watching.{Watched}
 use Rattle.runs.specs.WatchLists.{among}
 use Rattle.runs.specs.States.{Packet, State, View, view, view_of, looked, stamp_of, starts_over, starts, readied, arrived}

@@ -1,3 +1,2 @@
 // The rules of a session, and what holds of them.
 #![tactic(auto)]
-

@@ -6,7 +6,7 @@ use Rattle.codes.specs.declared.quote.Level.{Level}
 use Rattle.codes.specs.declared.quote.Level.TheVariants.{Second, Third, Fourth, Fifth}
 use Rattle.messages.specs.Content.{quote}
 use Rattle.messages.specs.declared.fields.QuoteFields.{QuoteFields}
-use Rattle.kinds.specs.contracts.depth.DepthKind.TheImpl.{ghosts as depthKind}
+use Rattle.kinds.specs.contracts.depth.DepthKind.TheImpl.{ghosts as depth_kind}
 use Rattle.kinds.specs.declared.book.PriceLevel.{PriceLevel}
 use Rattle.kinds.specs.Levels.{numbers}
 
@@ -50,7 +50,7 @@ quote_of on delete insert new stamp number symbol =
 abbrev pub Holds : Scenario → Type 0
 Holds (book on before delete insert new after) =
     (other : List PriceLevel) → length other ≡ 5 → (stamp number : ℕ) (symbol : List ℕ) →
-    depthKind.meaning.step (book_with on before other) (quote (quote_of on delete insert new stamp number symbol)) ≡ book_with on after other
+    depth_kind.meaning.step (book_with on before other) (quote (quote_of on delete insert new stamp number symbol)) ≡ book_with on after other
 
 abbrev pub AllHold : List Scenario → Type 0
 AllHold [] = Unit {0}

@@ -41,13 +41,13 @@ fn imbalance(time: u16) -> ImbalanceFields {
 fn messages(rt: HostRuntime) {
     let mut out = [170u8; 61];
     assert_eq!(rt; told(write_quote(&quote(1, SYMBOL), 11, &mut out)), Ok(52));
-    assert!(rt; &out[0..52] == &QUOTE);
+    assert!(rt; &out[0..52] == QUOTE.as_slice());
     assert_eq!(rt; (out[52], out[60]), (170, 170));
     assert_eq!(rt;
         told(write_imbalance(&imbalance(930), 11, &mut out)),
         Ok(60)
     );
-    assert!(rt; &out[0..60] == &IMBALANCE);
+    assert!(rt; &out[0..60] == IMBALANCE.as_slice());
     assert_eq!(rt; out[60], 170);
     let form = EventForm::Numbered {
         number: 3,
@@ -59,7 +59,7 @@ fn messages(rt: HostRuntime) {
         form,
     };
     assert_eq!(rt; told(write_event(&event, 11, &mut out)), Ok(44));
-    assert!(rt; &out[0..44] == &EVENT);
+    assert!(rt; &out[0..44] == EVENT.as_slice());
 }
 
 // Number and symbol of the reset and of an underlying's event are null.
@@ -75,8 +75,8 @@ fn events_without_a_number(rt: HostRuntime) {
             told(write_event(&EventFields { stamp: 1, form }, 9, &mut out)),
             Ok(44)
         );
-        assert!(rt; &out[0..8] == &[0, 44, b'v', 9, 0, 0, 0, 1]);
-        assert!(rt; &out[8..42] == &[0; 34]);
+        assert!(rt; &out[0..8] == [0, 44, b'v', 9, 0, 0, 0, 1].as_slice());
+        assert!(rt; &out[8..42] == [0; 34].as_slice());
         assert_eq!(rt; (out[42], out[43]), (code, reset));
     }
 }
@@ -138,11 +138,11 @@ fn refused_events(rt: HostRuntime) {
 fn packets(rt: HostRuntime) {
     let mut out = [170u8; 61];
     assert_eq!(rt; told(write_packet(&QUOTE, 258, 11, &mut out)), Ok(60));
-    assert!(rt; &out[0..8] == &[0, 60, b'M', 11, 0, 0, 1, 2]);
-    assert!(rt; &out[8..60] == &QUOTE);
+    assert!(rt; &out[0..8] == [0, 60, b'M', 11, 0, 0, 1, 2].as_slice());
+    assert!(rt; &out[8..60] == QUOTE.as_slice());
     assert_eq!(rt; out[60], 170);
     assert_eq!(rt; told(write_heartbeat(0, 11, &mut out)), Ok(8));
-    assert!(rt; &out[0..9] == &[0, 8, b'B', 11, 0, 0, 0, 0, 0]);
+    assert!(rt; &out[0..9] == [0, 8, b'B', 11, 0, 0, 0, 0, 0].as_slice());
 }
 
 // 186 events of 44 bytes fill the longest packet.

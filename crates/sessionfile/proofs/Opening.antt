@@ -8,7 +8,7 @@ use Rattle.std.specs.Simd.{first_chunks}
 use Rattle.codes.specs.Refusals.{Returned, placed}
 use Rattle.messages.specs.Wire.{be16, be32}
 use Rattle.sessionfile.specs.Entries.{packet_from, readable, then_readable}
-use Rattle.sessionfile.specs.Files.{header_fields, packet_offset, packet_offsets, symbol_at, symbols_of, symbol_fields, sound, first_fault, fault, unless, header_of, file_verdict}
+use Rattle.sessionfile.specs.Files.{header_fields, packet_offset, packet_offsets, symbol_at, symbols_of, symbol_fields, first_fault, fault, unless, header_of, file_verdict}
 use Rattle.sessionfile.specs.Layout.{WellFormed}
 use Rattle.sessionfile.specs.declared.header.FileHeader.{FileHeader}
 use Rattle.sessionfile.proofs.Faults.{Faultless, first_sound, no_fault, well_formed_lem}
