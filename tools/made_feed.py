@@ -4,7 +4,7 @@
 It shares no code with the project: the bytes are put together here field by field, and the lines
 are written out beside them from the same fields; nothing is read back. Run it from the repository's root; it writes
 stdin and stdout of crates/decode. With --session-files it also writes data/session and data/broken there, and
-prints what `decode - session broken` must print.
+prints what `decode - data/session data/broken` must print.
 """
 import struct
 import sys
@@ -188,5 +188,5 @@ if "--session-files" in sys.argv[1:]:
         f.write(session)
     with open("crates/decode/data/broken", "wb") as f:
         f.write(twice)
-    # what `decode - session broken` prints
+    # what `decode - data/session data/broken` prints
     sys.stdout.write("".join(line + "\n" for line in lines))

@@ -63,7 +63,7 @@ encoded subscription (quote q) = quote_bytes subscription q
 encoded subscription (imbalance i) = imbalance_bytes subscription i
 encoded subscription (event e) = event_bytes subscription e
 
--- whether the fields can be written: a number in its range, a well_formed_lem symbol, a time up to 2400
+-- whether the fields can be written: a number in its range, a well-formed symbol, a time up to 2400
 abbrev pub writable_form : EventForm → Bool
 writable_form (Numbered number symbol code) = nameable number symbol
 writable_form (Underlying code) = true

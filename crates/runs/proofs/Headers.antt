@@ -32,9 +32,9 @@ good_bodied subscription len (Ok h) g = good_where subscription (good_body h.kin
 good_header : (subscription : ℕ) (bytes : List ℕ) → Good subscription (header_verdict subscription bytes)
 unfolding header_verdict
 good_header subscription bytes =
-    let numberedHeader = numbered subscription (be32 bytes 4) (coded packet_code packet_types (byte bytes 2)) in
-    good_where subscription (good_length (be16 bytes 0) (length bytes)) (cond (eqb (byte bytes 3) subscription) numberedHeader (Err (alone 2))) (alone 1)
-    (λ e. good_where subscription (eqb (byte bytes 3) subscription) numberedHeader (alone 2) (λ f. good_numbered subscription (be32 bytes 4) (coded packet_code packet_types (byte bytes 2))))
+    let numbered_header = numbered subscription (be32 bytes 4) (coded packet_code packet_types (byte bytes 2)) in
+    good_where subscription (good_length (be16 bytes 0) (length bytes)) (cond (eqb (byte bytes 3) subscription) numbered_header (Err (alone 2))) (alone 1)
+    (λ e. good_where subscription (eqb (byte bytes 3) subscription) numbered_header (alone 2) (λ f. good_numbered subscription (be32 bytes 4) (coded packet_code packet_types (byte bytes 2))))
 
 good_packet : (subscription : ℕ) (bytes : List ℕ) → Good subscription (packet_verdict subscription bytes)
 unfolding packet_verdict

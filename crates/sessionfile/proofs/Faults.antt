@@ -1,4 +1,4 @@
--- A file without a fault is a well_formed_lem one.
+-- A file without a fault is a well-formed one.
 use Rattle.std.proofs.Common.{◌≡◌, ℕ, zero, suc, ◌+◌, ◌*◌, ◌<◌, ◌≤◌, Bool, true, false, cond, not, ◌&&◌, ◌||◌, leb, ◌↔◌, List, [], ◌∷◌, map, length, drop, is_some, is_ok, Some, None, Option, Result, sym, refl, ap, ◌∙◌, inl, inr, arith, length-drop}
 use Rattle.std.proofs.lemmas.Slice.Eq.{bytes_eq-Decides}
 use Rattle.std.proofs.lemmas.List.{length-take-le}

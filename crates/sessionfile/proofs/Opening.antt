@@ -87,7 +87,7 @@ readable_all file table (i ∷ is) h =
 pub given_entries : (file : List ℕ) (h : FileHeader) → Read file h → Faultless file → readable file h.offsets (range_with_len 0 h.packets) ≡ map (λ i. packet_from file (be32 file (be32 file 4 + 4 * i))) (range_with_len 0 (be32 file 0))
 given_entries file h read f = ap (λ (g : FileHeader). readable file g.offsets (range_with_len 0 g.packets)) read.is ∙ readable_all file (be32 file 4) (range_with_len 0 (be32 file 0)) f.packets
 
--- the symbols of a well_formed_lem file are all inside
+-- the symbols of a well-formed file are all inside
 symbols_inside : (file : List ℕ) (n : ℕ) → n ≡ be16 file 8 → WellFormed file → cond (leb (be32 file 12 + 8 * n) (length file)) (symbols_of file (be32 file 12) n) [] ≡ symbols_of file (be32 file 12) n
 symbols_inside file zero is w = by (leb (be32 file 12 + 8 * 0) (length file))
   where

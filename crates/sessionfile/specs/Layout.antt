@@ -1,4 +1,4 @@
--- A well_formed_lem session file: which field stands at which offset, apart from any order of checks.
+-- A well-formed session file: which field stands at which offset, apart from any order of checks.
 use Rattle.std.specs.Prelude.{◌≡◌, ℕ, ◌+◌, ◌*◌, ◌<◌, ◌≤◌, List, length, ◌≢◌}
 use Rattle.codes.specs.Codes.{kind_code}
 use Rattle.codes.specs.declared.kind.KindCode.{KindCode}
