@@ -1,5 +1,8 @@
 -- The published value of each case, and which values are read as a case.
-use Rattle.std.specs.Prelude.{ℕ, Bool, cond, ◌&&◌, List, [], ◌∷◌, ◌++◌, map, Some, None, Option, ◌==◌, nat_eq}
+use Rattle.std.specs.Prelude.{◌≡◌, ℕ, ◌&&◌, List, [], ◌∷◌, ◌++◌, map, Option, Result, ◌==◌, nat_eq}
+use Rattle.std.specs.List.{find}
+use Rattle.std.specs.Result.{result_ok}
+use Rattle.codes.specs.declared.unknown.UnknownCode.{UnknownCode}
 use Rattle.codes.specs.declared.packet.PacketType.{PacketType}
 use Rattle.codes.specs.declared.packet.PacketType.TheVariants as packet
 use Rattle.codes.specs.declared.quote.Side.{Side}
@@ -17,14 +20,13 @@ use Rattle.codes.specs.declared.event.EventCode.TheVariants.{Series, Underlying,
 use Rattle.codes.specs.declared.kind.KindCode.{KindCode}
 use Rattle.codes.specs.declared.kind.KindCode.TheVariants as kind
 
--- the first element that passes a test
-abbrev pub first : {E : Type 0} → (E → Bool) → List E → Option E
-first test [] = None
-first test (e ∷ es) = cond (test e) (Some e) (first test es)
-
 -- the case whose code is the byte
 abbrev pub coded : {E : Type 0} → (E → ℕ) → List E → ℕ → Option E
-coded code cases byte = first (λ e. nat_eq byte (code e)) cases
+coded code cases byte = find (λ e. nat_eq byte (code e)) cases
+
+-- a byte is read as that case, or is no code
+abbrev pub IsRead : {E : Type 0} → (E → ℕ) → List E → ℕ → Result E UnknownCode → Type 0
+IsRead code cases byte answer = result_ok answer ≡ coded code cases byte
 
 abbrev pub side_code : Side → ℕ
 side_code side.Bid = 66
@@ -90,9 +92,12 @@ reset_byte Reset = 82
 abbrev pub events : List EventCode
 events = map Series series_events ++ (map Underlying underlying_events ++ (Reset ∷ []))
 
--- the event whose two codes the bytes are
+-- an event's two bytes, and the event whose they are
+abbrev pub event_codes : EventCode → ℕ × ℕ
+event_codes e = (event_byte e, reset_byte e)
+
 unfoldable pub event_code : ℕ → ℕ → Option EventCode
-event_code event reset = first (λ e. (reset == reset_byte e) && event == event_byte e) events
+event_code event reset = find (λ e. (reset == reset_byte e) && event == event_byte e) events
 
 abbrev pub packet_code : PacketType → ℕ
 packet_code packet.Messages = 77

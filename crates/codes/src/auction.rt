@@ -1,9 +1,11 @@
 // The code of an imbalance: its auction.
 ghost use Rattle.std.specs.Prelude.{◌≡◌};
-ghost use Rattle.codes.specs.Codes.{coded, auctions, auction_code};
+ghost use Rattle.codes.specs.Codes.{IsRead, auctions, auction_code};
+
+use crate::unknown::UnknownCode;
 
 // The auction that an imbalance is of.
-#[derive(Clone, Copy)]
+#[derive(Clone, Copy, Debug, PartialEq, Eq)]
 pub enum Auction {
     Open,
     Market,
@@ -11,25 +13,29 @@ pub enum Auction {
     Closing,
 }
 
-impl Auction {
-    // The auction that a code stands for: `O`, `M`, `H` or `C`.
-    pub fn from_code(code: u8) -> Option<Auction>
-        ensures { result ≡ coded auction_code auctions code }
-    {
+// The auction that a code stands for: `O`, `M`, `H` or `C`.
+impl TryFrom<u8> for Auction {
+    type Error = UnknownCode;
+
+    ghost try_from_gives = { IsRead auction_code auctions };
+
+    fn try_from(code: u8) -> Result<Auction, UnknownCode> {
         match code {
-            b'O' => Some(Auction::Open),
-            b'M' => Some(Auction::Market),
-            b'H' => Some(Auction::Halt),
-            b'C' => Some(Auction::Closing),
-            _ => None,
+            b'O' => Ok(Auction::Open),
+            b'M' => Ok(Auction::Market),
+            b'H' => Ok(Auction::Halt),
+            b'C' => Ok(Auction::Closing),
+            _ => Err(UnknownCode),
         }
     }
+}
 
-    // The byte that stands for it.
-    pub fn code(self) -> u8
-        ensures { result ≡ auction_code self }
-    {
-        match self {
+// The byte that stands for it.
+impl From<Auction> for u8 {
+    ghost from_gives = { λ case byte. byte ≡ auction_code case };
+
+    fn from(auction: Auction) -> u8 {
+        match auction {
             Auction::Open => b'O',
             Auction::Market => b'M',
             Auction::Halt => b'H',

@@ -1,9 +1,12 @@
 // The codes of an event: its event code and its reset code.
 ghost use Rattle.std.specs.Prelude.{◌≡◌};
-ghost use Rattle.codes.specs.Codes.{coded, series_events, series_code, underlying_events, underlying_code, event_code, event_byte, reset_byte};
+ghost use Rattle.std.specs.Result.{result_ok};
+ghost use Rattle.codes.specs.Codes.{IsRead, series_events, series_code, underlying_events, underlying_code, event_code, event_codes};
+
+use crate::unknown::UnknownCode;
 
 // An event of one series, which carries a number and a symbol.
-#[derive(Clone, Copy)]
+#[derive(Clone, Copy, Debug, PartialEq, Eq)]
 pub enum SeriesEvent {
     ClearOffer,
     ClearBid,
@@ -17,31 +20,35 @@ pub enum SeriesEvent {
     Close,
 }
 
-impl SeriesEvent {
-    // The event that a code stands for: one of `A B C L N O S T U X`.
-    pub fn from_code(code: u8) -> Option<SeriesEvent>
-        ensures { result ≡ coded series_code series_events code }
-    {
+// The event that a code stands for: one of `A B C L N O S T U X`.
+impl TryFrom<u8> for SeriesEvent {
+    type Error = UnknownCode;
+
+    ghost try_from_gives = { IsRead series_code series_events };
+
+    fn try_from(code: u8) -> Result<SeriesEvent, UnknownCode> {
         match code {
-            b'A' => Some(SeriesEvent::ClearOffer),
-            b'B' => Some(SeriesEvent::ClearBid),
-            b'C' => Some(SeriesEvent::ClearSeries),
-            b'L' => Some(SeriesEvent::LightUp),
-            b'N' => Some(SeriesEvent::DarkOpen),
-            b'O' => Some(SeriesEvent::Open),
-            b'S' => Some(SeriesEvent::Halt),
-            b'T' => Some(SeriesEvent::DarkUnhalt),
-            b'U' => Some(SeriesEvent::Unhalt),
-            b'X' => Some(SeriesEvent::Close),
-            _ => None,
+            b'A' => Ok(SeriesEvent::ClearOffer),
+            b'B' => Ok(SeriesEvent::ClearBid),
+            b'C' => Ok(SeriesEvent::ClearSeries),
+            b'L' => Ok(SeriesEvent::LightUp),
+            b'N' => Ok(SeriesEvent::DarkOpen),
+            b'O' => Ok(SeriesEvent::Open),
+            b'S' => Ok(SeriesEvent::Halt),
+            b'T' => Ok(SeriesEvent::DarkUnhalt),
+            b'U' => Ok(SeriesEvent::Unhalt),
+            b'X' => Ok(SeriesEvent::Close),
+            _ => Err(UnknownCode),
         }
     }
+}
 
-    // The byte that stands for it.
-    pub fn code(self) -> u8
-        ensures { result ≡ series_code self }
-    {
-        match self {
+// The byte that stands for it.
+impl From<SeriesEvent> for u8 {
+    ghost from_gives = { λ case byte. byte ≡ series_code case };
+
+    fn from(event: SeriesEvent) -> u8 {
+        match event {
             SeriesEvent::ClearOffer => b'A',
             SeriesEvent::ClearBid => b'B',
             SeriesEvent::ClearSeries => b'C',
@@ -57,7 +64,7 @@ impl SeriesEvent {
 }
 
 // An event of an underlying, whose number and symbol are not read.
-#[derive(Clone, Copy)]
+#[derive(Clone, Copy, Debug, PartialEq, Eq)]
 pub enum UnderlyingEvent {
     Open,
     Halt,
@@ -65,25 +72,29 @@ pub enum UnderlyingEvent {
     Close,
 }
 
-impl UnderlyingEvent {
-    // The event that a code stands for: `o`, `s`, `u` or `x`.
-    pub fn from_code(code: u8) -> Option<UnderlyingEvent>
-        ensures { result ≡ coded underlying_code underlying_events code }
-    {
+// The event that a code stands for: `o`, `s`, `u` or `x`.
+impl TryFrom<u8> for UnderlyingEvent {
+    type Error = UnknownCode;
+
+    ghost try_from_gives = { IsRead underlying_code underlying_events };
+
+    fn try_from(code: u8) -> Result<UnderlyingEvent, UnknownCode> {
         match code {
-            b'o' => Some(UnderlyingEvent::Open),
-            b's' => Some(UnderlyingEvent::Halt),
-            b'u' => Some(UnderlyingEvent::Unhalt),
-            b'x' => Some(UnderlyingEvent::Close),
-            _ => None,
+            b'o' => Ok(UnderlyingEvent::Open),
+            b's' => Ok(UnderlyingEvent::Halt),
+            b'u' => Ok(UnderlyingEvent::Unhalt),
+            b'x' => Ok(UnderlyingEvent::Close),
+            _ => Err(UnknownCode),
         }
     }
+}
 
-    // The byte that stands for it.
-    pub fn code(self) -> u8
-        ensures { result ≡ underlying_code self }
-    {
-        match self {
+// The byte that stands for it.
+impl From<UnderlyingEvent> for u8 {
+    ghost from_gives = { λ case byte. byte ≡ underlying_code case };
+
+    fn from(event: UnderlyingEvent) -> u8 {
+        match event {
             UnderlyingEvent::Open => b'o',
             UnderlyingEvent::Halt => b's',
             UnderlyingEvent::Unhalt => b'u',
@@ -93,52 +104,43 @@ impl UnderlyingEvent {
 }
 
 // What an event's two code bytes say together.
-#[derive(Clone, Copy)]
+#[derive(Clone, Copy, Debug, PartialEq, Eq)]
 pub enum EventCode {
     Series(SeriesEvent),
     Underlying(UnderlyingEvent),
     Reset,
 }
 
-impl EventCode {
-    // The event of an event code and a reset code: `I` with `R` is the reset, every other event has `C`.
-    pub fn from_codes(event: u8, reset: u8) -> Option<EventCode>
-        ensures { result ≡ event_code event reset }
-    {
+// The event of an event code and a reset code: `I` with `R` is the reset, every other event has `C`.
+impl TryFrom<(u8, u8)> for EventCode {
+    type Error = UnknownCode;
+
+    ghost try_from_gives = { λ codes answer. result_ok answer ≡ event_code codes.0 codes.1 };
+
+    fn try_from(codes: (u8, u8)) -> Result<EventCode, UnknownCode> {
+        let (event, reset) = codes;
+        if event == b'I' && reset == b'R' {
+            return Ok(EventCode::Reset);
+        }
         if reset != b'C' {
-            return if reset == b'R' && event == b'I' {
-                Some(EventCode::Reset)
-            } else {
-                None
-            };
+            return Err(UnknownCode);
         }
-        match SeriesEvent::from_code(event) {
-            Some(code) => Some(EventCode::Series(code)),
-            None => match UnderlyingEvent::from_code(event) {
-                Some(code) => Some(EventCode::Underlying(code)),
-                None => None,
-            },
+        match SeriesEvent::try_from(event) {
+            Ok(code) => Ok(EventCode::Series(code)),
+            Err(_) => Ok(EventCode::Underlying(UnderlyingEvent::try_from(event)?)),
         }
     }
+}
 
-    // The byte at 42 of the event.
-    pub fn event_code(self) -> u8
-        ensures { result ≡ event_byte self }
-    {
-        match self {
-            EventCode::Series(code) => code.code(),
-            EventCode::Underlying(code) => code.code(),
-            EventCode::Reset => b'I',
-        }
-    }
+// The bytes at 42 and 43 of the event: its code, and `C`, or `R` for the reset.
+impl From<EventCode> for (u8, u8) {
+    ghost from_gives = { λ event codes. codes ≡ event_codes event };
 
-    // The byte at 43 of the event: `C`, or `R` for the reset.
-    pub fn reset_code(self) -> u8
-        ensures { result ≡ reset_byte self }
-    {
-        match self {
-            EventCode::Series(_) | EventCode::Underlying(_) => b'C',
-            EventCode::Reset => b'R',
+    fn from(event: EventCode) -> (u8, u8) {
+        match event {
+            EventCode::Series(code) => (u8::from(code), b'C'),
+            EventCode::Underlying(code) => (u8::from(code), b'C'),
+            EventCode::Reset => (b'I', b'R'),
         }
     }
 }

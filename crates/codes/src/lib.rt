@@ -7,3 +7,4 @@ pub mod kind;
 pub mod packet;
 pub mod quote;
 pub mod refusal;
+pub mod unknown;

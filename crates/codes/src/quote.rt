@@ -1,31 +1,37 @@
 // The codes of a quote: its side and its two levels.
 ghost use Rattle.std.specs.Prelude.{◌≡◌};
-ghost use Rattle.codes.specs.Codes.{coded, sides, side_code, levels, level_number};
+ghost use Rattle.codes.specs.Codes.{IsRead, sides, side_code, levels, level_number};
+
+use crate::unknown::UnknownCode;
 
 // The side of a book.
-#[derive(Clone, Copy)]
+#[derive(Clone, Copy, Debug, PartialEq, Eq)]
 pub enum Side {
     Bid,
     Offer,
 }
 
-impl Side {
-    // The side that a code stands for: `B` or `S`.
-    pub fn from_code(code: u8) -> Option<Side>
-        ensures { result ≡ coded side_code sides code }
-    {
+// The side that a code stands for: `B` or `S`.
+impl TryFrom<u8> for Side {
+    type Error = UnknownCode;
+
+    ghost try_from_gives = { IsRead side_code sides };
+
+    fn try_from(code: u8) -> Result<Side, UnknownCode> {
         match code {
-            b'B' => Some(Side::Bid),
-            b'S' => Some(Side::Offer),
-            _ => None,
+            b'B' => Ok(Side::Bid),
+            b'S' => Ok(Side::Offer),
+            _ => Err(UnknownCode),
         }
     }
+}
 
-    // The byte that stands for it.
-    pub fn code(self) -> u8
-        ensures { result ≡ side_code self }
-    {
-        match self {
+// The byte that stands for it.
+impl From<Side> for u8 {
+    ghost from_gives = { λ case byte. byte ≡ side_code case };
+
+    fn from(side: Side) -> u8 {
+        match side {
             Side::Bid => b'B',
             Side::Offer => b'S',
         }
@@ -33,7 +39,7 @@ impl Side {
 }
 
 // A price level, the best one first.
-#[derive(Clone, Copy)]
+#[derive(Clone, Copy, Debug, PartialEq, Eq)]
 pub enum Level {
     First,
     Second,
@@ -42,26 +48,30 @@ pub enum Level {
     Fifth,
 }
 
-impl Level {
-    // The level of a number from 1 to 5.
-    pub fn from_number(number: u8) -> Option<Level>
-        ensures { result ≡ coded level_number levels number }
-    {
-        match number {
-            1 => Some(Level::First),
-            2 => Some(Level::Second),
-            3 => Some(Level::Third),
-            4 => Some(Level::Fourth),
-            5 => Some(Level::Fifth),
-            _ => None,
+// The level of a number from 1 to 5.
+impl TryFrom<u8> for Level {
+    type Error = UnknownCode;
+
+    ghost try_from_gives = { IsRead level_number levels };
+
+    fn try_from(code: u8) -> Result<Level, UnknownCode> {
+        match code {
+            1 => Ok(Level::First),
+            2 => Ok(Level::Second),
+            3 => Ok(Level::Third),
+            4 => Ok(Level::Fourth),
+            5 => Ok(Level::Fifth),
+            _ => Err(UnknownCode),
         }
     }
+}
 
-    // 1 for the best level to 5.
-    pub fn number(self) -> u8
-        ensures { result ≡ level_number self }
-    {
-        match self {
+// 1 for the best level to 5.
+impl From<Level> for u8 {
+    ghost from_gives = { λ case byte. byte ≡ level_number case };
+
+    fn from(level: Level) -> u8 {
+        match level {
             Level::First => 1,
             Level::Second => 2,
             Level::Third => 3,

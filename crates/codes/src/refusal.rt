@@ -2,7 +2,10 @@
 ghost use Rattle.std.specs.Prelude.{◌≡◌};
 ghost use Rattle.codes.specs.Refusals.{returned, number_of, place_of};
 
-#[derive(Clone, Copy)]
+use std::error::Error;
+use std::fmt;
+
+#[derive(Clone, Copy, Debug, PartialEq, Eq)]
 pub enum Refusal {
     // The packet is shorter than 8 or longer than 8,192 bytes, or its length field differs.
     PacketLength,
@@ -69,3 +72,16 @@ impl Refusal {
         }
     }
 }
+
+// The returned number, and the offset or index where there is one.
+impl fmt::Display for Refusal {
+    fn fmt<W: fmt::Write>(&self, f: &mut fmt::Formatter<W>) -> fmt::Result {
+        let number = self.number();
+        match self.place() {
+            Some(place) => write!(f, "refused {number} at {place}"),
+            None => write!(f, "refused {number}"),
+        }
+    }
+}
+
+impl Error for Refusal {}
