@@ -7,7 +7,12 @@ use Rattle.codes.specs.Refusals.{returned}
 use Rattle.messages.specs.Wire.{part}
 use Rattle.messages.specs.declared.message.Message.{Message}
 use Rattle.feed.specs.declared.packet.Messages.{Messages}
+use Rattle.feed.specs.declared.packet.Packet.{Packet}
 use Rattle.codes.specs.declared.refusal.Refusal.{Refusal}
+
+-- all messages of a packet
+abbrev pub packet_items : Packet → List Item
+packet_items p = items p.header.subscription 8 (drop 8 p.bytes.now)
 
 abbrev pub pending : Messages → List Item
 pending m = items m.subscription m.at (drop m.at m.packet.now)

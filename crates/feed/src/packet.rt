@@ -1,15 +1,14 @@
 // A packet: its header, and its messages one after the other.
-ghost use Rattle.std.specs.Prelude.{◌≡◌, ◌<◌, true, drop, is_some, IfSome, IfOk};
+ghost use Rattle.std.specs.Prelude.{◌≡◌, IfSome, IfOk, Ok};
 ghost use Rattle.std.specs.Option.{option_map};
 ghost use Rattle.codes.specs.Refusals.{answered};
 ghost use Rattle.feed.specs.Agreement.{PacketsAgree, HeartbeatsAgree};
-ghost use Rattle.feed.specs.Items.{items, nth};
 ghost use Rattle.feed.specs.Packets.{good_length, good_number, good_body, header_verdict, packet_verdict};
-ghost use Rattle.feed.specs.Pending.{pending, bytes_left, item_of, Cut, Next};
 ghost use Rattle.std.specs.Iterator.{at_most};
 
 use codes::packet::PacketType;
 use codes::refusal::Refusal;
+use messages::header::RawHeader;
 use messages::message::Message;
 use messages::numbers::{HEADER_SIZE, LAST_NUMBER, in_range};
 use messages::read::read_message;
@@ -18,7 +17,7 @@ use messages::read::read_message;
 pub const LONGEST_PACKET: usize = 8_192;
 
 // The header of a packet, checked.
-#[derive(Clone, Copy)]
+#[derive(Clone, Copy, Debug, PartialEq, Eq)]
 pub struct Header {
     pub kind: PacketType,
     pub subscription: u8,
@@ -30,17 +29,17 @@ impl Header {
     pub fn read(bytes: &[u8], subscription: u8) -> Result<Header, Refusal>
         ensures { answered (λ h. h) result ≡ header_verdict subscription bytes.now }
     {
-        let [l0, l1, code, own_subscription, n0, n1, n2, n3, ..] = bytes else {
-            return Err(Refusal::PacketLength);
-        };
-        if !is_good_length(u16::from_be_bytes([*l0, *l1]), bytes.len()) {
+        let raw = RawHeader::read(bytes).ok_or(Refusal::PacketLength)?;
+        if !is_good_length(raw.length, bytes.len()) {
             return Err(Refusal::PacketLength);
         }
-        if *own_subscription != subscription {
+        if raw.subscription != subscription {
             return Err(Refusal::OtherSubscription);
         }
-        let kind = PacketType::from_code(*code).ok_or(Refusal::PacketType)?;
-        let number = u32::from_be_bytes([*n0, *n1, *n2, *n3]);
+        let Ok(kind) = PacketType::try_from(raw.code) else {
+            return Err(Refusal::PacketType);
+        };
+        let number = raw.last;
         if !is_good_number(kind, number) {
             return Err(Refusal::NumberOutOfRange);
         }
@@ -84,9 +83,13 @@ fn is_good_length(said: u16, len: usize) -> bool
 pub struct Packet<'a> {
     header: Header,
     bytes: &'a [u8],
+    ghost good: { packet_verdict header.subscription bytes.now ≡ Ok header },
 }
 
 impl<'a> Packet<'a> {
+    ghost use Rattle.feed.specs.Items.{nth};
+    ghost use Rattle.feed.specs.Pending.{pending, packet_items, item_of, Cut};
+
     // Refusals 1 to 4 as for the header, and then 5 at 8 for an M packet without a message or a B packet over 8 bytes.
     pub fn read(bytes: &'a [u8], subscription: u8) -> Result<Packet<'a>, Refusal>
         ensures verdict { answered (λ p. p.header) result ≡ packet_verdict subscription bytes.now }
@@ -111,23 +114,16 @@ impl<'a> Packet<'a> {
     // The item of an index among the messages, counted from 0: a message with its offset, or the refusal of a broken
     // one, which is the last. None past the last.
     pub fn message(self, index: usize) -> Option<Result<(usize, Message<'a>), Refusal>>
-        ensures item { option_map item_of result ≡ nth index (items self.entry.header.subscription 8 (drop 8 self.entry.bytes.now)) }
+        ensures item { option_map item_of result ≡ nth index (packet_items self.entry) }
         ensures own { IfSome result (Cut self.entry.bytes.now) }
     {
-        let mut left = index;
-        for item in self.messages() {
-            if left == 0 {
-                return Some(item);
-            }
-            left -= 1;
-        }
-        None
+        self.messages().nth(index)
     }
 
     // The messages with their offsets in the packet; a broken one is the last item, as its refusal.
     pub fn messages(self) -> Messages<'a>
         ensures packet { result.packet.now ≡ self.entry.bytes.now }
-        ensures all { pending result ≡ items self.entry.header.subscription 8 (drop 8 self.entry.bytes.now) }
+        ensures all { pending result ≡ packet_items self.entry }
     {
         let Packet {
             header,
@@ -149,40 +145,30 @@ pub struct Messages<'a> {
     subscription: u8,
 }
 
-impl<'a> Messages<'a> {
+impl<'a> Iterator for Messages<'a> {
+    ghost use Rattle.feed.specs.Pending.{bytes_left, Next};
+
+    type Item = Result<(usize, Message<'a>), Refusal>;
+
+    ghost next_gives = { Next };
+
+    ghost remaining = { λ s. at_most (bytes_left s) };
+
     // The next message with its offset, or the refusal of a broken one, after which nothing is left.
-    fn advance(&mut self) -> Option<Result<(usize, Message<'a>), Refusal>>
-        ensures next { Next self.old result self.new }
-        ensures shrinks { is_some result ≡ true → bytes_left self.new < bytes_left self.old }
-    {
-        let packet = self.packet;
+    fn next(&mut self) -> Option<Result<(usize, Message<'a>), Refusal>> {
         let at = self.at;
-        if at >= packet.len() {
+        if at >= self.packet.len() {
             return None;
         }
-        match read_message(&packet[at..], self.subscription, at) {
+        match read_message(&self.packet[at..], self.subscription, at) {
             Ok(message) => {
                 self.at = at + message.size();
                 Some(Ok((at, message)))
             }
             Err(refusal) => {
-                self.at = packet.len();
+                self.at = self.packet.len();
                 Some(Err(refusal))
             }
         }
-    }
-}
-
-impl<'a> Iterator for Messages<'a> {
-    type Item = Result<(usize, Message<'a>), Refusal>;
-
-    ghost can_next = { λ _. Unit {0} };
-
-    ghost next_gives = { λ s r t. Next s r t };
-
-    ghost remaining = { λ s. at_most (bytes_left s) };
-
-    fn next(&mut self) -> Option<Result<(usize, Message<'a>), Refusal>> {
-        self.advance()
     }
 }

@@ -1,3 +1,4 @@
+pub mod Answers
 pub mod Symbols
 pub mod Verdicts
 pub mod Layouts

@@ -1,30 +1,36 @@
 -- How the tests of a symbol step along its field.
-use Rattle.std.proofs.Common.{◌≡◌, ℕ, zero, suc, ◌+◌, ◌-◌, ◌<◌, ◌≤◌, Bool, true, false, cond, ◌&&◌, eqb, leb, ◌↔◌, List, [], ◌∷◌, ◌++◌, length, get_or, take, drop, replicate, sym, refl, ap, ◌∙◌, ⊎_elim, arith}
-use Rattle.std.proofs.lemmas.List.{at_drop_more, at_drop_all, take_rest}
-use Rattle.std.proofs.lemmas.Bool.{cond-true, cond-false, cases_lt, eq-eqb, ne_eqb, eqb-true, le-leb, leb-true, and_from, and_parts}
+use Rattle.std.proofs.Common.{◌≡◌, ℕ, zero, suc, ◌+◌, ◌-◌, ◌<◌, ◌≤◌, Bool, true, false, cond, ◌&&◌, eqb, leb, ◌↔◌, List, [], ◌∷◌, ◌++◌, length, get_or, take, drop, replicate, sym, refl, ap, ◌∙◌, arith}
+use Rattle.std.proofs.lemmas.List.{take_rest}
+use Rattle.std.proofs.lemmas.Bool.{cond-true, cond-false, eqb-true, le-leb, leb-true, and_from, and_parts}
+use Rattle.std.proofs.lemmas.List.Folds.{length-prefix_len}
+use Rattle.std.proofs.lemmas.List.Sums.{prefix_len-le-length}
+use Rattle.std.specs.List.{list_all, prefix_len, take_while}
 use Rattle.messages.specs.Layout.{Symbol}
 use Rattle.messages.specs.Symbols.{printable, padded, nulls, well_formed}
 
-module _ (field : List ℕ) (i : ℕ) where
-  pub padded_on : i < length field → printable (get_or field i 0) ≡ true → padded (drop i field) ≡ padded (drop (i + 1) field)
-  padded_on inside p = at_drop_more padded field i 0 inside ∙ cond-true _ _ _ p
+-- the bytes from the first that is not printable on are null
+nulls_all_of : (bs : List ℕ) → list_all (λ b. eqb b 0) bs ≡ nulls bs
+nulls_all_of [] = refl
+nulls_all_of (b ∷ bs) = ap (λ t. eqb b 0 && t) (nulls_all_of bs)
 
-  pub padded_off : (i < length field → printable (get_or field i 0) ≡ false) → padded (drop i field) ≡ nulls (drop i field)
-  padded_off p =
-      ⊎_elim
-      (λ inside. at_drop_more padded field i 0 inside ∙ cond-false _ _ _ (p inside) ∙ sym (at_drop_more nulls field i 0 inside))
-      (λ past. at_drop_all padded field i past ∙ sym (at_drop_all nulls field i past))
-      (cases_lt i (length field))
+past_prefix : (field : List ℕ) → list_all (λ b. eqb b 0) (drop (prefix_len printable field) field) ≡ padded field
+past_prefix [] = refl
+past_prefix (b ∷ bs) = by (printable b) refl (past_prefix bs)
+  where
+    after : ℕ → Bool
+    after n = list_all (λ c. eqb c 0) (drop n (b ∷ bs))
 
-  pub nulls_on : i < length field → get_or field i 0 ≡ 0 → nulls (drop i field) ≡ nulls (drop (i + 1) field)
-  nulls_on inside p = at_drop_more nulls field i 0 inside ∙ ap (λ t. t && nulls (drop (i + 1) field)) (eq-eqb _ _ p)
+    by : (t : Bool) → printable b ≡ t → list_all (λ c. eqb c 0) (drop (prefix_len printable bs) bs) ≡ padded bs → after (prefix_len printable (b ∷ bs)) ≡ padded (b ∷ bs)
+    by true t later =
+        let e : 1 + prefix_len printable bs ≡ suc (prefix_len printable bs) = omega arith in
+        ap after (cond-true (printable b) (1 + prefix_len printable bs) 0 t ∙ e) ∙ later ∙ sym (cond-true (printable b) (padded bs) (nulls (b ∷ bs)) t)
+    by false t later = ap after (cond-false (printable b) (1 + prefix_len printable bs) 0 t) ∙ nulls_all_of (b ∷ bs) ∙ sym (cond-false (printable b) (padded bs) (nulls (b ∷ bs)) t)
 
-  pub nulls_end : i ≤ length field → (i < length field → get_or field i 0 ≡ 0 → ⊥) → eqb i (length field) ≡ nulls (drop i field)
-  nulls_end within p =
-      ⊎_elim
-      (λ inside. ne_eqb _ _ (λ e. omega arith) ∙ sym (at_drop_more nulls field i 0 inside ∙ ap (λ t. t && nulls (drop (i + 1) field)) (ne_eqb _ _ (p inside))))
-      (λ past. eq-eqb _ _ (omega arith) ∙ sym (at_drop_all nulls field i past))
-      (cases_lt i (length field))
+pub padded_past_name : (field : List ℕ) → list_all (λ b. eqb b 0) (drop (length (take_while printable field)) field) ≡ padded field
+padded_past_name field = ap (λ n. list_all (λ b. eqb b 0) (drop n field)) (length-prefix_len printable field) ∙ past_prefix field
+
+pub name_inside : (field : List ℕ) → length (take_while printable field) ≤ length field
+name_inside field = let e = length-prefix_len printable field in let p = prefix_len-le-length printable field in omega arith
 
 pub first_then_rest : (field : List ℕ) → well_formed field ≡ (printable (get_or field 0 0) && padded (take (length field - 1) (drop 1 field)))
 first_then_rest [] = refl

@@ -1,5 +1,5 @@
 -- What a message says, whatever bytes it came in.
-use Rattle.std.specs.Prelude.{ℕ}
+use Rattle.std.specs.Prelude.{ℕ, List, Some, None, Option}
 use Rattle.messages.specs.declared.fields.QuoteFields.{QuoteFields}
 use Rattle.messages.specs.declared.fields.ImbalanceFields.{ImbalanceFields}
 use Rattle.messages.specs.declared.fields.EventFields.{EventFields}
@@ -18,6 +18,22 @@ abbrev pub size : Content → ℕ
 size (quote q) = 52
 size (imbalance i) = 60
 size (event e) = 44
+
+abbrev pub stamp_in : Content → ℕ
+stamp_in (quote q) = q.stamp
+stamp_in (imbalance i) = i.stamp
+stamp_in (event e) = e.stamp
+
+-- the number and the symbol of a message of a series
+abbrev pub form_name : EventForm → Option (ℕ × List ℕ)
+form_name (Numbered number symbol code) = Some (number, symbol)
+form_name (Underlying code) = None
+form_name Reset = None
+
+abbrev pub name_in : Content → Option (ℕ × List ℕ)
+name_in (quote q) = Some (q.number, q.symbol)
+name_in (imbalance i) = Some (i.number, i.symbol)
+name_in (event e) = form_name e.form
 
 -- which event it is, by its two codes
 abbrev pub form_code : EventForm → EventCode

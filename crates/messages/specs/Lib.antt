@@ -1,4 +1,5 @@
 pub mod Wire
+pub mod Header
 pub mod Symbols
 pub mod Content
 pub mod Layout

@@ -5,7 +5,7 @@ use codes::event::{SeriesEvent, UnderlyingEvent};
 use codes::quote::{Level, Side};
 
 // The levels of one side change: the delete level goes, then this one comes in as the insert level.
-#[derive(Clone, Copy)]
+#[derive(Clone, Copy, Debug, PartialEq, Eq)]
 pub struct QuoteFields {
     // Milliseconds since midnight.
     pub stamp: u32,
@@ -23,7 +23,7 @@ pub struct QuoteFields {
 pub const LATEST_TIME: u16 = 2400;
 
 // What an auction would trade, and what it would leave over.
-#[derive(Clone, Copy)]
+#[derive(Clone, Copy, Debug, PartialEq, Eq)]
 pub struct ImbalanceFields {
     pub stamp: u32,
     pub number: u32,
@@ -38,13 +38,13 @@ pub struct ImbalanceFields {
 }
 
 // Something happened to a series, to an underlying, or to the whole subscription.
-#[derive(Clone, Copy)]
+#[derive(Clone, Copy, Debug, PartialEq, Eq)]
 pub struct EventFields {
     pub stamp: u32,
     pub form: EventForm,
 }
 
-#[derive(Clone, Copy)]
+#[derive(Clone, Copy, Debug, PartialEq, Eq)]
 pub enum EventForm {
     // Of one series: it takes its place among that series' numbers.
     Numbered {

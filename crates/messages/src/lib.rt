@@ -2,6 +2,7 @@
 #![tactic(auto)]
 
 pub mod fields;
+pub mod header;
 pub mod message;
 pub mod numbers;
 pub mod read;

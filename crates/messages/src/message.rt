@@ -2,92 +2,86 @@
 //
 // Every method is a total function of those bytes. Of a message that was read, the fields are the
 // content that the reader's contract speaks of.
-ghost use Rattle.std.specs.Prelude.{◌≡◌, ◌≤◌};
-ghost use Rattle.messages.specs.Content.{size};
+ghost use Rattle.std.specs.Prelude.{◌≡◌, ◌≤◌, length};
+ghost use Rattle.messages.specs.Content.{size, stamp_in, name_in};
 ghost use Rattle.messages.specs.Messages.{content, own_bytes};
 ghost use Rattle.messages.specs.Verdict.{quote_fields, imbalance_fields, event_fields};
 
 use crate::fields::{EventFields, EventForm, ImbalanceFields, QuoteFields};
-use crate::numbers::{read_u16, read_u32};
-use crate::symbol::{Symbol, symbol_at};
+use crate::numbers::{part, u32_at};
+use crate::symbol::Symbol;
 use codes::auction::Auction;
 use codes::event::EventCode;
 use codes::quote::{Level, Side};
 
-// A quote, by its 52 bytes of the packet.
+// A message of a type whose messages have LEN bytes, by those bytes.
 #[derive(Clone, Copy)]
-pub struct Quote<'a> {
-    pub(crate) bytes: &'a [u8; 52],
+pub struct Own<'a, const LEN: usize> {
+    pub(crate) bytes: &'a [u8; LEN],
 }
 
-impl<'a> Quote<'a> {
+pub type Quote<'a> = Own<'a, 52>;
+
+pub type Imbalance<'a> = Own<'a, 60>;
+
+pub type Event<'a> = Own<'a, 44>;
+
+impl<'a> Own<'a, 52> {
     // Its fields, read from their places.
     pub fn fields(self) -> QuoteFields
         ensures { result ≡ quote_fields self.entry.bytes.now }
     {
-        let bytes = self.bytes;
+        let own = self.bytes;
         QuoteFields {
-            stamp: read_u32(bytes, 4),
-            number: read_u32(bytes, 8),
-            symbol: symbol_at(bytes),
-            side: Side::from_code(bytes[41]).unwrap_or(Side::Offer),
-            insert: Level::from_number(bytes[42]).unwrap_or(Level::Fifth),
-            delete: Level::from_number(bytes[43]).unwrap_or(Level::Fifth),
-            contracts: read_u32(bytes, 44),
-            price: read_u32(bytes, 48),
+            stamp: u32_at(own, 4),
+            number: u32_at(own, 8),
+            symbol: part(own, 32),
+            side: Side::try_from(own[41]).unwrap_or(Side::Offer),
+            insert: Level::try_from(own[42]).unwrap_or(Level::Fifth),
+            delete: Level::try_from(own[43]).unwrap_or(Level::Fifth),
+            contracts: u32_at(own, 44),
+            price: u32_at(own, 48),
         }
     }
 }
 
-// An imbalance, by its 60 bytes of the packet.
-#[derive(Clone, Copy)]
-pub struct Imbalance<'a> {
-    pub(crate) bytes: &'a [u8; 60],
-}
-
-impl<'a> Imbalance<'a> {
+impl<'a> Own<'a, 60> {
     // Its fields, read from their places.
     pub fn fields(self) -> ImbalanceFields
         ensures { result ≡ imbalance_fields self.entry.bytes.now }
     {
-        let bytes = self.bytes;
+        let own = self.bytes;
         ImbalanceFields {
-            stamp: read_u32(bytes, 4),
-            number: read_u32(bytes, 8),
-            symbol: symbol_at(bytes),
-            auction: Auction::from_code(bytes[41]).unwrap_or(Auction::Closing),
-            time: read_u16(bytes, 42),
-            contracts: read_u32(bytes, 44),
-            price: read_u32(bytes, 48),
-            total: read_u32(bytes, 52),
-            market: read_u32(bytes, 56),
+            stamp: u32_at(own, 4),
+            number: u32_at(own, 8),
+            symbol: part(own, 32),
+            auction: Auction::try_from(own[41]).unwrap_or(Auction::Closing),
+            time: u16::from_be_bytes([own[42], own[43]]),
+            contracts: u32_at(own, 44),
+            price: u32_at(own, 48),
+            total: u32_at(own, 52),
+            market: u32_at(own, 56),
         }
     }
 }
 
-// An event, by its 44 bytes of the packet.
-#[derive(Clone, Copy)]
-pub struct Event<'a> {
-    pub(crate) bytes: &'a [u8; 44],
-}
-
-impl<'a> Event<'a> {
+impl<'a> Own<'a, 44> {
     // Its fields, read from their places.
     pub fn fields(self) -> EventFields
         ensures { result ≡ event_fields self.entry.bytes.now }
     {
-        let bytes = self.bytes;
-        let form = match EventCode::from_codes(bytes[42], bytes[43]) {
-            Some(EventCode::Series(code)) => EventForm::Numbered {
-                number: read_u32(bytes, 8),
-                symbol: symbol_at(bytes),
+        let own = self.bytes;
+        let form = match EventCode::try_from((own[42], own[43])) {
+            Ok(EventCode::Series(code)) => EventForm::Numbered {
+                number: u32_at(own, 8),
+                symbol: part(own, 32),
                 code,
             },
-            Some(EventCode::Underlying(code)) => EventForm::Underlying(code),
-            Some(EventCode::Reset) | None => EventForm::Reset,
+            Ok(EventCode::Underlying(code)) => EventForm::Underlying(code),
+            Ok(EventCode::Reset) | Err(_) => EventForm::Reset,
         };
         EventFields {
-            stamp: read_u32(bytes, 4),
+            stamp: u32_at(own, 4),
             form,
         }
     }
@@ -114,23 +108,39 @@ impl<'a> Message<'a> {
         }
     }
 
-    // Its own bytes of the packet.
+    // Its own bytes of the packet, 44 at least.
     pub fn bytes(self) -> &'a [u8]
-        ensures { result.now ≡ own_bytes self.entry }
+        ensures own { result.now ≡ own_bytes self.entry }
+        ensures least { 44 ≤ length result.now }
     {
         match self {
-            Message::Quote(quote) => {
-                let bytes = quote.bytes;
-                bytes
-            }
-            Message::Imbalance(imbalance) => {
-                let bytes = imbalance.bytes;
-                bytes
-            }
-            Message::Event(event) => {
-                let bytes = event.bytes;
-                bytes
+            Message::Quote(Own { bytes }) => bytes,
+            Message::Imbalance(Own { bytes }) => bytes,
+            Message::Event(Own { bytes }) => bytes,
+        }
+    }
+
+    // Its stamp.
+    pub fn stamp(self) -> u32
+        ensures { result ≡ stamp_in (content self.entry) }
+    {
+        u32_at(self.bytes(), 4)
+    }
+
+    // The number and the symbol of a message of a series.
+    pub fn name(self) -> Option<(u32, Symbol)>
+        ensures { result ≡ name_in (content self.entry) }
+    {
+        if let Message::Event(event) = self {
+            let own = event.bytes;
+            if !matches!(
+                EventCode::try_from((own[42], own[43])),
+                Ok(EventCode::Series(_))
+            ) {
+                return None;
             }
         }
+        let own = self.bytes();
+        Some((u32_at(own, 8), part(own, 32)))
     }
 }

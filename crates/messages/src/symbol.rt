@@ -1,7 +1,7 @@
 // Option symbols: 1 to 8 bytes from 33 to 126, and then nulls to the end of the field.
-ghost use Rattle.std.specs.Prelude.{◌≡◌, ◌≤◌, true, ◌↔◌, length};
+ghost use Rattle.std.specs.Prelude.{◌≡◌, true, ◌↔◌, length, ◌==◌};
+ghost use Rattle.std.specs.List.{list_all, take_while};
 ghost use Rattle.messages.specs.Layout.{Symbol as SymbolField};
-ghost use Rattle.messages.specs.Wire.{part};
 ghost use Rattle.messages.specs.Symbols.{printable, padded, well_formed};
 
 pub type Symbol = [u8; 8];
@@ -12,18 +12,25 @@ fn is_printable(byte: u8) -> bool
     byte >= 33 && byte <= 126
 }
 
+// How many bytes stand before the first that is not printable.
+fn name_length(field: &[u8]) -> usize
+    ensures { result ≡ length (take_while printable field.now) }
+{
+    field.iter().take_while(|byte| is_printable(**byte)).count()
+}
+
+fn are_null(bytes: &[u8]) -> bool
+    ensures { result ≡ list_all (λ byte. byte == 0) bytes.now }
+{
+    bytes.iter().all(|byte| *byte == 0)
+}
+
 // Printable bytes, and then nulls only.
+#[tactic(auto, using(crate::proofs::Symbols::name_inside))]
 fn is_padded(field: &[u8]) -> bool
     ensures { result ≡ padded field.now }
 {
-    let mut i = 0;
-    'name: while i < field.len() && is_printable(field[i]) {
-        i += 1;
-    }
-    'nulls: while i < field.len() && field[i] == 0 {
-        i += 1;
-    }
-    i == field.len()
+    are_null(&field[name_length(field)..])
 }
 
 // A field of printable bytes, at least one, and then nulls only.
@@ -42,14 +49,4 @@ pub fn is_well_formed(symbol: &Symbol) -> bool
     ensures law { (result ≡ true) ↔ SymbolField symbol.now }
 {
     is_symbol(symbol)
-}
-
-// The symbol of a message, at offset 32.
-pub(crate) fn symbol_at(own: &[u8]) -> Symbol
-    requires { 40 ≤ length own.now }
-    ensures { result ≡ part own.now 32 8 }
-{
-    let mut symbol = [0; 8];
-    symbol.copy_from_slice(&own[32..40]);
-    symbol
 }

@@ -1,48 +1,81 @@
-use Rattle.std.proofs.Common.{◌<◌, ◌≤◌, true, false, length, sym, ◌∙◌, arith}
+use Rattle.std.proofs.Common.{◌<◌, length, sym, ap, ◌∙◌, arith}
 use Rattle.std.proofs.lemmas.Bool.Decides.{nat_tests}
-use Rattle.messages.proofs.Verdicts.{message_short, headed_is, headed_own, message_unheaded, message_quote, message_imbalance, message_event, message_other, own_front}
+use Rattle.std.specs.Option.{option_map}
+use Rattle.messages.specs.Messages.{content}
+use Rattle.messages.specs.Verdict.{when, quote_fields, imbalance_fields, event_fields, quote_in, imbalance_in, event_in}
+use Rattle.messages.specs.Content.{quote, imbalance, event}
+use Rattle.messages.specs.declared.message.Message.TheVariants as v
+use Rattle.messages.proofs.Verdicts.{header_is, cut_none, cut_some, handed_out, handed_own, message_short, message_elsewhere, message_quote, message_imbalance, message_event, message_other}
 use Rattle.messages.proofs.read.first_message.Goals as goal
 
-pub returns-in_default : goal.returns-in_default
-returns-in_default c =
+pub returns-in_err-header-clause-content : goal.returns-in_err-header-clause-content
+returns-in_err-header-clause-content c =
     let short : length c.args.bytes.now < 8 = grind (arith, nat_tests) in
-    record { content = message_short c.args.subscription c.args.bytes.now short; own = tt }
+    ap (option_map content) c.from_residual.ensures ∙ message_short c.args.subscription c.args.bytes.now short
 
-pub returns-then-not-is_headed : goal.returns-then-not-is_headed
-returns-then-not-is_headed c =
-    let sub = c.args.subscription in
-    let bytes = c.args.bytes.now in
-    let long : 8 ≤ length bytes = grind (arith, nat_tests) in
-    record { content = message_unheaded sub bytes (headed_is sub bytes _ false long c.from_be_bytes-said.ensures c.if-not-is_headed.ensures); own = tt }
+pub returns-then-header-subscription-clause-content : goal.returns-then-header-subscription-clause-content
+returns-then-header-subscription-clause-content c =
+    let h = header_is c.args.bytes.now c.in_ok-header.header c.in_ok-header.ensures in
+    message_elsewhere c.args.subscription c.args.bytes.now (λ e. c.if-header-subscription.true (ap (λ x. x.subscription) h ∙ e))
 
-pub returns-in-113 : goal.returns-in-113
-returns-in-113 c =
-    let sub = c.args.subscription in
+pub returns-in_err-quote-in-113-clause-content : goal.returns-in_err-quote-in-113-clause-content
+returns-in_err-quote-in-113-clause-content c =
     let bytes = c.args.bytes.now in
-    let long : 8 ≤ length bytes = grind (arith, nat_tests) in
-    let own = headed_own sub bytes (headed_is sub bytes _ true long c.from_be_bytes-said.ensures c.if-not-is_headed.ensures) in
-    record { content = c.read_quote.ensures.content ∙ sym (message_quote sub bytes own c.in-113.is); own = own_front bytes 52 c.read_quote.result c.read_quote.ensures.own }
+    let h = header_is bytes c.in_ok-header.header c.in_ok-header.ensures in
+    let typed = message_quote c.args.subscription bytes (ap (λ x. x.subscription) (sym h) ∙ c.if-header-subscription.false) (ap (λ x. x.code) (sym h) ∙ c.in-113.is) in
+    ap (option_map content) c.from_residual-in_err-quote-in-113.ensures ∙ sym (typed ∙ cut_none bytes 52 _ (ap (λ x. x.length) h) quote_in c.in_err-quote-in-113.ensures)
 
-pub returns-in-105 : goal.returns-in-105
-returns-in-105 c =
-    let sub = c.args.subscription in
+pub returns-in_ok-quote-in-113-clause-content : goal.returns-in_ok-quote-in-113-clause-content
+returns-in_ok-quote-in-113-clause-content c =
     let bytes = c.args.bytes.now in
-    let long : 8 ≤ length bytes = grind (arith, nat_tests) in
-    let own = headed_own sub bytes (headed_is sub bytes _ true long c.from_be_bytes-said.ensures c.if-not-is_headed.ensures) in
-    record { content = c.read_imbalance.ensures.content ∙ sym (message_imbalance sub bytes own c.in-105.is); own = own_front bytes 60 c.read_imbalance.result c.read_imbalance.ensures.own }
+    let own = c.in_ok-quote-in-113.quote.bytes.now in
+    let h = header_is bytes c.in_ok-header.header c.in_ok-header.ensures in
+    let typed = message_quote c.args.subscription bytes (ap (λ x. x.subscription) (sym h) ∙ c.if-header-subscription.false) (ap (λ x. x.code) (sym h) ∙ c.in-113.is) in
+    let read = (cut_some bytes 52 _ (ap (λ x. x.length) h) quote_in own c.in_ok-quote-in-113.ensures).0 in
+    handed_out _ (v.Quote c.in_ok-quote-in-113.quote) _ c.then_some.ensures ∙ ap (λ b. when b (quote (quote_fields own))) c.is_good_quote.ensures ∙ sym (typed ∙ read)
 
-pub returns-in-118 : goal.returns-in-118
-returns-in-118 c =
-    let sub = c.args.subscription in
+pub returns-in_err-imbalance-in-105-clause-content : goal.returns-in_err-imbalance-in-105-clause-content
+returns-in_err-imbalance-in-105-clause-content c =
     let bytes = c.args.bytes.now in
-    let long : 8 ≤ length bytes = grind (arith, nat_tests) in
-    let own = headed_own sub bytes (headed_is sub bytes _ true long c.from_be_bytes-said.ensures c.if-not-is_headed.ensures) in
-    record { content = c.read_event.ensures.content ∙ sym (message_event sub bytes own c.in-118.is); own = own_front bytes 44 c.read_event.result c.read_event.ensures.own }
+    let h = header_is bytes c.in_ok-header.header c.in_ok-header.ensures in
+    let typed = message_imbalance c.args.subscription bytes (ap (λ x. x.subscription) (sym h) ∙ c.if-header-subscription.false) (ap (λ x. x.code) (sym h) ∙ c.in-105.is) in
+    ap (option_map content) c.from_residual-in_err-imbalance-in-105.ensures ∙ sym (typed ∙ cut_none bytes 60 _ (ap (λ x. x.length) h) imbalance_in c.in_err-imbalance-in-105.ensures)
 
-pub returns-in_default-kind : goal.returns-in_default-kind
-returns-in_default-kind c =
-    let sub = c.args.subscription in
+pub returns-in_ok-imbalance-in-105-clause-content : goal.returns-in_ok-imbalance-in-105-clause-content
+returns-in_ok-imbalance-in-105-clause-content c =
     let bytes = c.args.bytes.now in
-    let long : 8 ≤ length bytes = grind (arith, nat_tests) in
-    let own = headed_own sub bytes (headed_is sub bytes _ true long c.from_be_bytes-said.ensures c.if-not-is_headed.ensures) in
-    record { content = message_other sub bytes own (λ e. grind (arith, nat_tests)) (λ e. grind (arith, nat_tests)) (λ e. grind (arith, nat_tests)); own = tt }
+    let own = c.in_ok-imbalance-in-105.imbalance.bytes.now in
+    let h = header_is bytes c.in_ok-header.header c.in_ok-header.ensures in
+    let typed = message_imbalance c.args.subscription bytes (ap (λ x. x.subscription) (sym h) ∙ c.if-header-subscription.false) (ap (λ x. x.code) (sym h) ∙ c.in-105.is) in
+    let read = (cut_some bytes 60 _ (ap (λ x. x.length) h) imbalance_in own c.in_ok-imbalance-in-105.ensures).0 in
+    handed_out _ (v.Imbalance c.in_ok-imbalance-in-105.imbalance) _ c.then_some-in-105.ensures ∙ ap (λ b. when b (imbalance (imbalance_fields own))) c.is_good_imbalance.ensures ∙ sym (typed ∙ read)
+
+pub returns-in_err-event-in-118-clause-content : goal.returns-in_err-event-in-118-clause-content
+returns-in_err-event-in-118-clause-content c =
+    let bytes = c.args.bytes.now in
+    let h = header_is bytes c.in_ok-header.header c.in_ok-header.ensures in
+    let typed = message_event c.args.subscription bytes (ap (λ x. x.subscription) (sym h) ∙ c.if-header-subscription.false) (ap (λ x. x.code) (sym h) ∙ c.in-118.is) in
+    ap (option_map content) c.from_residual-in_err-event-in-118.ensures ∙ sym (typed ∙ cut_none bytes 44 _ (ap (λ x. x.length) h) event_in c.in_err-event-in-118.ensures)
+
+pub returns-in_ok-event-in-118-clause-content : goal.returns-in_ok-event-in-118-clause-content
+returns-in_ok-event-in-118-clause-content c =
+    let bytes = c.args.bytes.now in
+    let own = c.in_ok-event-in-118.event.bytes.now in
+    let h = header_is bytes c.in_ok-header.header c.in_ok-header.ensures in
+    let typed = message_event c.args.subscription bytes (ap (λ x. x.subscription) (sym h) ∙ c.if-header-subscription.false) (ap (λ x. x.code) (sym h) ∙ c.in-118.is) in
+    let read = (cut_some bytes 44 _ (ap (λ x. x.length) h) event_in own c.in_ok-event-in-118.ensures).0 in
+    handed_out _ (v.Event c.in_ok-event-in-118.event) _ c.then_some-in-118.ensures ∙ ap (λ b. when b (event (event_fields own))) c.is_good_event.ensures ∙ sym (typed ∙ read)
+
+pub returns-in_ok-quote-in-113-clause-own : goal.returns-in_ok-quote-in-113-clause-own
+returns-in_ok-quote-in-113-clause-own c =
+    let bytes = c.args.bytes.now in
+    let h = header_is bytes c.in_ok-header.header c.in_ok-header.ensures in
+    let own = (cut_some bytes 52 _ (ap (λ x. x.length) h) quote_in _ c.in_ok-quote-in-113.ensures).1 in
+    handed_own bytes _ (v.Quote c.in_ok-quote-in-113.quote) _ c.then_some.ensures own
+
+pub returns-in_default-clause-content : goal.returns-in_default-clause-content
+returns-in_default-clause-content c =
+    let bytes = c.args.bytes.now in
+    let h = header_is bytes c.in_ok-header.header c.in_ok-header.ensures in
+    let own = ap (λ x. x.subscription) (sym h) ∙ c.if-header-subscription.false in
+    message_other c.args.subscription bytes own (λ e. grind (arith, nat_tests)) (λ e. grind (arith, nat_tests)) (λ e. grind (arith, nat_tests))
