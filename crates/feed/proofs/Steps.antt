@@ -1,5 +1,5 @@
 -- How the messages of a packet follow one another.
-use Rattle.std.proofs.Common.{◌≡◌, ℕ, zero, suc, ◌+◌, ◌<◌, ◌≤◌, List, [], ◌∷◌, length, drop, Ok, Err, Result, sym, refl, ap, ◌∙◌, arith, length-append, length-drop}
+use Rattle.std.proofs.Common.{◌≡◌, ℕ, zero, suc, ◌+◌, ◌<◌, ◌≤◌, List, [], ◌∷◌, length, drop, IfSome, Some, None, Option, Ok, Err, Result, sym, refl, ap, ◌∙◌, arith, length-append, length-drop}
 use Rattle.std.proofs.lemmas.List.{drop-drop}
 use Rattle.messages.specs.Content.{Content, quote, imbalance, event, size}
 use Rattle.feed.specs.Items.{Item, good, refused, item_then, at_most, items}
@@ -7,6 +7,13 @@ use Rattle.messages.specs.Layout.{LaidMessage}
 use Rattle.codes.specs.Refusals.{Returned}
 use Rattle.messages.specs.Verdict.{verdict}
 use Rattle.messages.proofs.Judgements.{verdict_laid}
+use Rattle.std.specs.Iterator.{Yields, SkipsThenYields}
+use Rattle.std.specs.Option.{option_map, MatchOption}
+use Rattle.codes.specs.declared.refusal.Refusal.{Refusal}
+use Rattle.messages.specs.declared.message.Message.{Message}
+use Rattle.feed.specs.Items.{nth}
+use Rattle.feed.specs.Pending.{pending, item_of, Cut, Next}
+use Rattle.feed.specs.declared.packet.Messages.{Messages}
 
 pub some_size : (c : Content) → 0 < size c
 some_size (quote q) = omega arith
@@ -75,3 +82,20 @@ module _ (subscription : ℕ) (packet : List ℕ) (at : ℕ) (inside : at < leng
 
 pub next_none : (subscription : ℕ) (packet : List ℕ) (at : ℕ) → length packet ≤ at → items subscription at (drop at packet) ≡ []
 next_none subscription packet at h = items_none subscription at (drop at packet) (omega (arith, length-drop at packet))
+
+-- the item after so many calls of `next` is the one of that index, with its own bytes
+nth_here : (n : ℕ) (s u : Messages) (r : Option (Result (ℕ × Message) Refusal)) → Next s r u → MatchOption r (0 ≤ n) (λ _. 0 ≡ n) → (option_map item_of r ≡ nth n (pending s)) × IfSome r (Cut s.packet.now)
+nth_here n s u None next m = (sym (ap (nth n) next.0), tt)
+nth_here n s u (Some x) next m = (sym (ap (λ k. nth k (pending s)) (sym m) ∙ ap (nth 0) next.0), next.1)
+
+nth_from : (xs : List (Result (ℕ × Message) Refusal)) (n : ℕ) (s t u : Messages) (r : Option (Result (ℕ × Message) Refusal)) → Yields Next s xs t → Next t r u → MatchOption r (length xs ≤ n) (λ _. length xs ≡ n) → (option_map item_of r ≡ nth n (pending s)) × IfSome r (Cut s.packet.now)
+nth_from [] n s t u r same next m = rw same (nth_here n t u r next m)
+nth_from (x ∷ xs) zero s t u None (j, first, rest) next m = absurd (omega arith)
+nth_from (x ∷ xs) zero s t u (Some y) (j, first, rest) next m = absurd (omega arith)
+nth_from (x ∷ xs) (suc n) s t u None (j, first, rest) next m = ((nth_from xs n j t u None rest next (omega arith)).0 ∙ sym (ap (nth (suc n)) first.0), tt)
+nth_from (x ∷ xs) (suc n) s t u (Some y) (j, first, rest) next m =
+    let later = nth_from xs n j t u (Some y) rest next (omega arith) in
+    (later.0 ∙ sym (ap (nth (suc n)) first.0), rw (sym (ap (λ b. b.now) first.2)) later.1)
+
+pub nth_is : (s u : Messages) (n : ℕ) (r : Option (Result (ℕ × Message) Refusal)) → SkipsThenYields Next s n r u → (option_map item_of r ≡ nth n (pending s)) × IfSome r (Cut s.packet.now)
+nth_is s u n r (xs, (t, along, next), m) = nth_from xs n s t u r along next m

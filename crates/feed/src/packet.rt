@@ -27,7 +27,8 @@ pub struct Header {
 impl Header {
     // The header of a packet on this subscription, or refusal 1, 2, 3 or 4, in this order.
     pub fn read(bytes: &[u8], subscription: u8) -> Result<Header, Refusal>
-        ensures { answered (λ h. h) result ≡ header_verdict subscription bytes.now }
+        ensures verdict { answered (λ h. h) result ≡ header_verdict subscription bytes.now }
+        ensures own { IfOk result (λ h. h.subscription ≡ subscription) }
     {
         let raw = RawHeader::read(bytes).ok_or(Refusal::PacketLength)?;
         if !is_good_length(raw.length, bytes.len()) {
