@@ -16,7 +16,7 @@ use Rattle.messages.proofs.Symbols.{symbol_passes, symbol_from}
 use Rattle.messages.specs.Verdict.{nameable}
 use Rattle.encode.specs.Encode.{header_bytes, named_bytes, quote_bytes, imbalance_bytes, event_bytes, encoded, writable_form, writable}
 use Rattle.encode.specs.Typed.{TypedForm}
-use Rattle.encode.proofs.Typed.{TypedQuote, TypedImbalance, Typed}
+use Rattle.encode.specs.Typed.{TypedQuote, TypedImbalance, Typed}
 use Rattle.encode.proofs.Numbers.{back16, back32, eight}
 
 -- fields that are laid out can be written

@@ -1,4 +1,3 @@
-pub mod Typed
 pub mod Numbers
 pub mod Laying
 pub mod Writes

@@ -8,7 +8,7 @@ use Rattle.messages.specs.Layout.{LaidMessage}
 use Rattle.messages.proofs.Judgements.{verdict_laid}
 use Rattle.feed.proofs.Steps.{laid_size}
 use Rattle.encode.specs.Encode.{encoded, writable}
-use Rattle.encode.proofs.Typed.{Typed}
+use Rattle.encode.specs.Typed.{Typed}
 use Rattle.encode.specs.Writing.{put_answer, put, written, buffer, Wrote}
 use Rattle.encode.proofs.Laying.{laid_writable, encoded_laid}
 

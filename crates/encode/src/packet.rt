@@ -44,7 +44,7 @@ pub fn write_packet(
     }
     check_messages(messages, subscription)?;
     let length = (HEADER_SIZE + messages.len()) as u16;
-    let header = header_bytes(length, PacketType::Messages.code(), subscription, number);
+    let header = header_bytes(length, u8::from(PacketType::Messages), subscription, number);
     put_parts(&header, messages, &[], out)
 }
 
@@ -55,6 +55,6 @@ pub fn write_heartbeat(number: u32, subscription: u8, out: &mut [u8]) -> Result<
     if number > LAST_NUMBER {
         return Err(Refusal::NumberOutOfRange);
     }
-    let header = header_bytes(8, PacketType::Heartbeat.code(), subscription, number);
+    let header = header_bytes(8, u8::from(PacketType::Heartbeat), subscription, number);
     put_parts(&header, &[], &[], out)
 }

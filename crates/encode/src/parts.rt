@@ -31,6 +31,14 @@ pub(crate) fn named_bytes(number: u32, symbol: Symbol) -> [u8; 32]
     ]
 }
 
+// The parts of a message, one behind the other: its header, its bytes from 8 to 39, and the TAIL bytes from 40 on.
+#[derive(Clone, Copy)]
+pub(crate) struct Parts<const TAIL: usize> {
+    pub(crate) header: [u8; 8],
+    pub(crate) named: [u8; 32],
+    pub(crate) tail: [u8; TAIL],
+}
+
 // Puts three parts, one after the other, at the front of a buffer, or refuses where it has no room for them.
 pub(crate) fn put_parts(
     header: &[u8; 8],

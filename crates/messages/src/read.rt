@@ -10,8 +10,8 @@ ghost use Rattle.messages.specs.Verdict.{named, good_quote, good_imbalance, good
 use crate::fields::LATEST_TIME;
 use crate::header::RawHeader;
 use crate::message::{Event, Imbalance, Message, Own, Quote};
-use crate::numbers::{in_range, part, u32_at};
-use crate::symbol::is_symbol;
+use crate::numbers::{part, u32_at};
+use crate::symbol::is_nameable;
 use codes::auction::Auction;
 use codes::event::EventCode;
 use codes::quote::{Level, Side};
@@ -22,7 +22,7 @@ fn is_named(own: &[u8]) -> bool
     requires { 40 ≤ length own.now }
     ensures { result ≡ named own.now }
 {
-    in_range(u32_at(own, 8)) && is_symbol(&own[32..40])
+    is_nameable(u32_at(own, 8), &part(own, 32))
 }
 
 fn is_good_quote(own: &[u8; 52]) -> bool

@@ -3,6 +3,9 @@ ghost use Rattle.std.specs.Prelude.{◌≡◌, true, ◌↔◌, length, ◌==◌
 ghost use Rattle.std.specs.List.{list_all, take_while};
 ghost use Rattle.messages.specs.Layout.{Symbol as SymbolField};
 ghost use Rattle.messages.specs.Symbols.{printable, padded, well_formed};
+ghost use Rattle.messages.specs.Verdict.{nameable};
+
+use crate::numbers::in_range;
 
 pub type Symbol = [u8; 8];
 
@@ -34,7 +37,7 @@ fn is_padded(field: &[u8]) -> bool
 }
 
 // A field of printable bytes, at least one, and then nulls only.
-pub(crate) fn is_symbol(field: &[u8]) -> bool
+fn is_symbol(field: &[u8]) -> bool
     ensures { result ≡ well_formed field.now }
 {
     match field {
@@ -49,4 +52,11 @@ pub fn is_well_formed(symbol: &Symbol) -> bool
     ensures law { (result ≡ true) ↔ SymbolField symbol.now }
 {
     is_symbol(symbol)
+}
+
+// Whether a message can carry a number and a symbol: the number in its range, the symbol well formed.
+pub fn is_nameable(number: u32, symbol: &Symbol) -> bool
+    ensures { result ≡ nameable number symbol.now }
+{
+    in_range(number) && is_symbol(symbol)
 }

@@ -28,5 +28,5 @@ returns c =
     let number = c.args.number in
     let messages = c.args.messages.now in
     let header = c.header_bytes-header.result in
-    let is = append-nil (header ++ messages) ∙ ap (λ (h : List ℕ). h ++ messages) (c.header_bytes-header.ensures.bytes ∙ ap (λ k. header_bytes (8 + length messages) k sub number) c.code.ensures) in
+    let is = append-nil (header ++ messages) ∙ ap (λ (h : List ℕ). h ++ messages) (c.header_bytes-header.ensures.bytes ∙ ap (λ k. header_bytes (8 + length messages) k sub number) c.from.ensures) in
     packet_put sub number messages c.args.out.now _ (header ++ messages ++ []) _ (fault_messages sub number messages (omega arith) None (sym c.if-not-in_range.ensures) c.in_ok-check_messages.ensures) is c.put_parts.ensures.answer c.put_parts.ensures.after
