@@ -15,7 +15,8 @@ pub struct FirstElse<A, B> {
 impl<A: ReplayStore, B: ReplayStore> FirstElse<A, B> {
     // The pair holds what the first holds, and under each other number what the second does.
     pub fn new(first: A, second: B) -> FirstElse<A, B>
-        ensures parts { (result.first ≡ first) × (result.second ≡ second) }
+        ensures first { result.first ≡ first }
+        ensures second { result.second ≡ second }
         ensures holds { PairHolds A.row B.row A.ReplayStore B.ReplayStore result (λ n. option_or (A.ReplayStore.held first n) (B.ReplayStore.held second n)) }
     {
         FirstElse { first, second }
