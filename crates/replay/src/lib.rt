@@ -4,4 +4,3 @@
 pub mod first_else;
 pub mod lending;
 pub mod store;
-pub mod stores;

@@ -1,5 +1,5 @@
 // The packets last received, in memory that the caller lends.
-ghost use Rattle.std.specs.Prelude.{◌≡◌, ◌-◌, ◌/◌, ◌≤◌, true, false, [], length, is_some, is_ok};
+ghost use Rattle.std.specs.Prelude.{◌≡◌, ℕ, ◌-◌, ◌/◌, ◌≤◌, true, false, [], length, is_some, is_ok};
 ghost use Rattle.std.specs.Option.{option_map};
 ghost use Rattle.codes.specs.Refusals.{answered};
 ghost use Rattle.feed.specs.Packets.{good_length};
@@ -10,7 +10,7 @@ use crate::cell::{CELL, packet_in};
 use codes::refusal::Refusal;
 use feed::packet::LONGEST_PACKET;
 use messages::numbers::in_range;
-use replay::store::is_packet;
+use replay::store::{ReplayStore, is_packet};
 
 const MOST_CELLS: usize = 64;
 
@@ -30,7 +30,6 @@ pub struct Window<'a> {
 }
 
 impl<'a> Window<'a> {
-    ghost use Rattle.window.specs.Held.{WindowHolds};
     ghost use Rattle.window.specs.Windows.{area_verdict, packets, room, keepable, added, kept, keep_verdict};
 
     // Whether a window can be made over an area: 1 to 64 cells of 8,192 bytes, else refusal 12.
@@ -66,7 +65,7 @@ impl<'a> Window<'a> {
     pub fn keep(&mut self, packet: &[u8]) -> Result<(), Refusal>
         ensures answers { answered (λ _. tt) result ≡ keep_verdict (keepable self.old.subscription packet.now) }
         ensures keeps { packets self.new ≡ kept (room self.old) self.old.subscription packet.now (packets self.old) }
-        ensures holds { WindowHolds self.new (holding self.old.subscription (packets self.new)) }
+        ensures holds { (number : ℕ) → ⟦<Window<'a> as ReplayStore>⟧.held self.new number ≡ holding self.old.subscription (packets self.new) number }
         ensures unchanged { is_ok result ≡ false → self.new ≡ self.old }
         ensures subscription { self.new.subscription ≡ self.old.subscription }
         ensures length { length self.new.area.now ≡ length self.old.area.now }
