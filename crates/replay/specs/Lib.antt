@@ -1,3 +1,2 @@
 pub mod Stores
 pub mod Shapes
-pub mod Held

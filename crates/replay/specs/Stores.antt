@@ -1,7 +1,7 @@
 -- What a replay store holds, and what a fetch answers and leaves in the buffer.
 use Rattle.std.specs.Prelude.{ℕ, Bool, cond, ◌&&◌, List, ◌++◌, length, drop, Some, None, Ok, Err, Option, Result, ◌==◌, nat_le}
 use Rattle.std.specs.Option.{option_map}
-use Rattle.codes.specs.Codes.{first}
+use Rattle.std.specs.List.{find}
 use Rattle.codes.specs.Refusals.{Returned, alone}
 use Rattle.messages.specs.Layout.{Number}
 use Rattle.messages.specs.Verdict.{in_range}
@@ -45,4 +45,4 @@ carries subscription number packet =
 
 -- what packets in a row hold: under a number, the first of them that carries it
 abbrev pub holding : (subscription : ℕ) → List (List ℕ) → (number : ℕ) → Option (List ℕ)
-holding subscription packets number = first (carries subscription number) packets
+holding subscription packets number = find (carries subscription number) packets

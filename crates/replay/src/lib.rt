@@ -2,5 +2,5 @@
 #![tactic(auto)]
 
 pub mod first_else;
+pub mod lending;
 pub mod store;
-pub mod stores;

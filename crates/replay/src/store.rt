@@ -22,6 +22,17 @@ pub trait ReplayStore {
         ensures leaves { buffer.new ≡ fetched_into (held self.now number) number buffer.old };
 }
 
+// A store behind a reference.
+impl<'a, S: ReplayStore> ReplayStore for &'a S {
+    ghost held = { λ s n. S.ReplayStore.held s.now n };
+
+    ghost shaped = { λ s n. S.ReplayStore.shaped s.now n };
+
+    fn fetch(&self, number: u32, buffer: &mut [u8]) -> Result<Option<usize>, Refusal> {
+        (**self).fetch(number, buffer)
+    }
+}
+
 // Whether a number may be fetched into a buffer of this length: refusals 4 and 9, in this order.
 pub fn check_fetch(number: u32, room: usize) -> Result<(), Refusal>
     ensures { answered (λ _. tt) result ≡ fetchable number room }

@@ -5,21 +5,25 @@ ghost use Rattle.sessionfile.specs.Entries.{given};
 
 use crate::file::SessionFile;
 use codes::refusal::Refusal;
-use replay::store::{ReplayStore, check_fetch};
+use replay::lending::LendingStore;
+use replay::store::ReplayStore;
 
-impl<'a> ReplayStore for SessionFile<'a> {
+impl<'a> LendingStore for SessionFile<'a> {
     ghost held = { λ s n. holding s.header.subscription (given s) n };
 
     ghost shaped = { λ s n. shaped_holding s.header.subscription (given s) n };
 
+    fn lend(&self, number: u32) -> Option<&[u8]> {
+        self.packet(number)
+    }
+}
+
+impl<'a> ReplayStore for SessionFile<'a> {
+    ghost held = { ⟦<SessionFile<'a> as LendingStore>⟧.held };
+
+    ghost shaped = { ⟦<SessionFile<'a> as LendingStore>⟧.shaped };
+
     fn fetch(&self, number: u32, buffer: &mut [u8]) -> Result<Option<usize>, Refusal> {
-        check_fetch(number, buffer.len())?;
-        match self.packet(number) {
-            Some(packet) => {
-                buffer[..packet.len()].copy_from_slice(packet);
-                Ok(Some(packet.len()))
-            }
-            None => Ok(None),
-        }
+        self.fetch_lent(number, buffer)
     }
 }

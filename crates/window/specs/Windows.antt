@@ -1,8 +1,9 @@
 -- The packets that a window holds, read off its area.
-use Rattle.std.specs.Prelude.{ℕ, zero, suc, ◌+◌, ◌-◌, ◌*◌, ◌/◌, min, Bool, cond, ◌&&◌, List, [], ◌∷◌, ◌++◌, length, take, drop, Some, None, Ok, Err, Option, Result, ◌==◌, nat_le, nat_lt}
+use Rattle.std.specs.Prelude.{ℕ, zero, suc, ◌-◌, ◌*◌, ◌/◌, min, Bool, cond, ◌&&◌, List, [], ◌∷◌, ◌++◌, length, map, take, drop, Some, None, Ok, Err, Option, Result, ◌==◌, nat_le}
+use Rattle.std.specs.Simd.{first_chunks}
 use Rattle.codes.specs.Refusals.{Returned, alone}
 use Rattle.messages.specs.Verdict.{in_range}
-use Rattle.messages.specs.Wire.{byte, be16, be32, part}
+use Rattle.messages.specs.Wire.{byte, be16, be32}
 use Rattle.feed.specs.Packets.{good_length}
 use Rattle.replay.specs.Stores.{holding}
 use Rattle.window.specs.declared.window.Window.{Window}
@@ -18,29 +19,17 @@ good_cells cells len = nat_le 1 cells && nat_le cells 64 && len == cells * 8192
 abbrev pub area_verdict : ℕ → Result (Unit {0}) Returned
 area_verdict len = cond (good_cells (len / 8192) len) (Ok tt) (Err (alone 12))
 
--- the bytes of a cell, and the packet at their front, by its length field
-abbrev pub cell_bytes : List ℕ → ℕ → List ℕ
-cell_bytes area i = part area (i * 8192) 8192
+-- the packet at the front of a cell, by its length field
+abbrev pub front : List ℕ → List ℕ
+front cell = take (min (be16 cell 0) 8192) cell
 
-unfoldable pub cell : List ℕ → ℕ → List ℕ
-cell area i = take (min (be16 (cell_bytes area i) 0) 8192) (cell_bytes area i)
-
--- the cells are a ring: the cell so many after the first
-abbrev pub cell_after : (cells first i : ℕ) → ℕ
-cell_after cells first i = cond (nat_lt (first + i) cells) (first + i) (first + i - cells)
-
--- so many packets, from that in the i-th cell after the first on
-abbrev pub row : List ℕ → (cells first i count : ℕ) → List (List ℕ)
-row area cells first i zero = []
-row area cells first i (suc more) = cell area (cell_after cells first i) ∷ row area cells first (suc i) more
-
--- a first cell that is none is taken for the cell 0
-abbrev pub first_cell : (cells first : ℕ) → ℕ
-first_cell cells first = cond (nat_lt first cells) first 0
+-- the cells are a ring: those from a first one on, and then those before it
+abbrev pub ring : {E : Type 0} → ℕ → List E → List E
+ring first es = drop first es ++ take first es
 
 -- the packets in an area, in the order kept
 unfoldable pub packets_in : List ℕ → (first count : ℕ) → List (List ℕ)
-packets_in area first count = row area (cells (length area)) (first_cell (cells (length area)) first) 0 (min count (cells (length area)))
+packets_in area first count = map front (take count (ring first (first_chunks 8192 (cells (length area)) area)))
 
 abbrev pub packets : Window → List (List ℕ)
 packets w = packets_in w.area.now w.first w.count
