@@ -4,7 +4,7 @@ ghost use Rattle.std.specs.Option.{option_map};
 ghost use Rattle.sessionfile.specs.Entries.{pointed_at, entries_left, Next};
 ghost use Rattle.std.specs.Iterator.{at_most};
 
-use crate::header::{read_u16, read_u32};
+use crate::array::array_at;
 use feed::packet::LONGEST_PACKET;
 use messages::numbers::HEADER_SIZE;
 
@@ -12,8 +12,8 @@ use messages::numbers::HEADER_SIZE;
 pub(crate) fn packet_of(bytes: &[u8], place: usize) -> Option<&[u8]>
     ensures { option_map (λ x. x.now) result ≡ pointed_at bytes.now place }
 {
-    let at = read_u32(bytes, place)? as usize;
-    let length = read_u16(bytes, at)? as usize;
+    let at = u32::from_be_bytes(*array_at(bytes, place)?) as usize;
+    let length = u16::from_be_bytes(*array_at(bytes, at)?) as usize;
     if length < HEADER_SIZE || length > LONGEST_PACKET || length > bytes.len() - at {
         return None;
     }
