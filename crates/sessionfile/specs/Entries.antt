@@ -1,6 +1,5 @@
 -- The packets and the symbols of a session file.
 use Rattle.std.specs.Prelude.{◌≡◌, ℕ, ◌+◌, ◌-◌, ◌*◌, cond, List, [], ◌∷◌, map, length, Some, None, Option, nat_le}
-use Rattle.std.specs.Borrow.{Bor}
 use Rattle.std.specs.List.{range_with_len}
 use Rattle.messages.specs.Wire.{be16, be32, part}
 use Rattle.sessionfile.specs.Files.{packet_offset, sound, symbols_of}
@@ -47,8 +46,3 @@ entries_left e = e.packets - e.next
 
 abbrev pub pending : Entries → List (List ℕ)
 pending e = readable e.bytes.now e.offsets (range_with_len e.next (entries_left e))
-
--- what a call of `next` takes of it
-abbrev pub Next : Entries → Option (Bor (List ℕ)) → Entries → Type 0
-Next before None after = pending before ≡ []
-Next before (Some packet) after = pending before ≡ packet.now ∷ pending after

@@ -1,8 +1,8 @@
 // The packets of a session file, one after the other.
-ghost use Rattle.std.specs.Prelude.{◌≡◌, ◌<◌, true, is_some};
+ghost use Rattle.std.specs.Prelude.{◌≡◌};
 ghost use Rattle.std.specs.Option.{option_map};
-ghost use Rattle.sessionfile.specs.Entries.{pointed_at, entries_left, Next};
-ghost use Rattle.std.specs.Iterator.{at_most};
+ghost use Rattle.std.specs.Iterator.{YieldsFirstRef, item_count};
+ghost use Rattle.sessionfile.specs.Entries.{pointed_at, pending};
 
 use crate::array::array_at;
 use feed::packet::LONGEST_PACKET;
@@ -29,36 +29,19 @@ pub struct Entries<'a> {
     pub(crate) packets: u32,
 }
 
-impl<'a> Entries<'a> {
-    fn advance(&mut self) -> Option<&'a [u8]>
-        ensures next { Next self.old result self.new }
-        ensures shrinks { is_some result ≡ true → entries_left self.new < entries_left self.old }
-    {
-        let bytes = self.bytes;
-        let next = self.next;
-        if next >= self.packets {
-            return None;
-        }
-        match packet_of(bytes, self.offsets as usize + 4 * next as usize) {
-            Some(packet) => {
-                self.next = next + 1;
-                Some(packet)
-            }
-            None => None,
-        }
-    }
-}
-
 impl<'a> Iterator for Entries<'a> {
     type Item = &'a [u8];
 
-    ghost can_next = { λ _. Unit {0} };
+    ghost next_gives = { YieldsFirstRef pending };
 
-    ghost next_gives = { λ s r t. Next s r t };
-
-    ghost remaining = { λ s. at_most (entries_left s) };
+    ghost remaining = { item_count pending };
 
     fn next(&mut self) -> Option<&'a [u8]> {
-        self.advance()
+        if self.next >= self.packets {
+            return None;
+        }
+        let packet = packet_of(self.bytes, self.offsets as usize + 4 * self.next as usize)?;
+        self.next += 1;
+        Some(packet)
     }
 }

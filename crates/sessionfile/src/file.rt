@@ -83,12 +83,8 @@ impl<'a> SessionFile<'a> {
         ensures short { IfSome result (λ p. length p.now ≤ 8192) }
     {
         let subscription = self.header.subscription;
-        for packet in self.entries() {
-            if is_packet(packet, subscription, number) {
-                return Some(packet);
-            }
-        }
-        None
+        self.entries()
+            .find(|packet| is_packet(packet, subscription, number))
     }
 }
 
