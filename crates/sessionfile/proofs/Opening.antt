@@ -1,14 +1,12 @@
 -- What opening answers, from what its checks answer, and what an opened file gives.
-use Rattle.std.proofs.Common.{◌≡◌, ℕ, zero, suc, ◌+◌, ◌-◌, ◌*◌, ◌/◌, ◌≤◌, Bool, true, false, cond, leb, List, [], ◌∷◌, map, length, take, drop, Some, None, Ok, Err, Option, sym, refl, ap, ◌∙◌, arith, length-drop}
-use Rattle.std.proofs.lemmas.List.{drop-drop}
-use Rattle.std.proofs.lemmas.Bool.{cond-true, le-leb}
+use Rattle.std.proofs.Common.{◌≡◌, ℕ, zero, suc, ◌+◌, ◌-◌, ◌*◌, ◌/◌, min, List, [], ◌∷◌, map, length, Some, None, Ok, Err, Option, sym, refl, ap, ◌∙◌, arith}
+use Rattle.std.proofs.lemmas.Bool.{cond-true}
 use Rattle.std.specs.List.{range_with_len}
 use Rattle.std.specs.Option.{option_map, option_or}
-use Rattle.std.specs.Simd.{first_chunks}
 use Rattle.codes.specs.Refusals.{Returned, placed}
 use Rattle.messages.specs.Wire.{be16, be32}
 use Rattle.sessionfile.specs.Entries.{packet_from, readable, then_readable}
-use Rattle.sessionfile.specs.Files.{header_fields, packet_offset, packet_offsets, symbol_at, symbols_of, symbol_fields, first_fault, fault, unless, header_of, file_verdict}
+use Rattle.sessionfile.specs.Files.{header_fields, packet_offset, packet_offsets, symbols_of, symbols_inside, symbol_fields, first_fault, fault, unless, header_of, file_verdict}
 use Rattle.sessionfile.specs.Layout.{WellFormed}
 use Rattle.sessionfile.specs.declared.header.FileHeader.{FileHeader}
 use Rattle.sessionfile.proofs.Faults.{Faultless, first_sound, no_fault, well_formed_lem}
@@ -84,41 +82,15 @@ readable_all file table (i ∷ is) h =
     let rest = readable_all file table is p.1 in
     ap (λ (o : Option (List ℕ)). then_readable o (readable file table is)) (cond-true _ _ _ p.0) ∙ ap (λ (l : List (List ℕ)). packet_from file (be32 file (table + 4 * i)) ∷ l) rest
 
-pub given_entries : (file : List ℕ) (h : FileHeader) → Read file h → Faultless file → readable file h.offsets (range_with_len 0 h.packets) ≡ map (λ i. packet_from file (be32 file (be32 file 4 + 4 * i))) (range_with_len 0 (be32 file 0))
-given_entries file h read f = ap (λ (g : FileHeader). readable file g.offsets (range_with_len 0 g.packets)) read.is ∙ readable_all file (be32 file 4) (range_with_len 0 (be32 file 0)) f.packets
+pub given_entries : (file : List ℕ) (h : FileHeader) → h ≡ header_of file → Faultless file → readable file h.offsets (range_with_len 0 h.packets) ≡ map (λ i. packet_from file (be32 file (be32 file 4 + 4 * i))) (range_with_len 0 (be32 file 0))
+given_entries file h is f = ap (λ (g : FileHeader). readable file g.offsets (range_with_len 0 g.packets)) is ∙ readable_all file (be32 file 4) (range_with_len 0 (be32 file 0)) f.packets
 
 -- the symbols of a well-formed file are all inside
-symbols_inside : (file : List ℕ) (n : ℕ) → n ≡ be16 file 8 → WellFormed file → cond (leb (be32 file 12 + 8 * n) (length file)) (symbols_of file (be32 file 12) n) [] ≡ symbols_of file (be32 file 12) n
-symbols_inside file zero is w = by (leb (be32 file 12 + 8 * 0) (length file))
-  where
-    by : (b : Bool) → cond {A = List (List ℕ)} b [] [] ≡ []
-    by true = refl
-    by false = refl
-symbols_inside file (suc n) is w =
-    let last = (w.symbols n (omega arith)).inside in
-    let all : be32 file 12 + 8 * suc n ≤ length file = omega arith in
-    cond-true _ _ _ (le-leb _ _ all)
+all_inside : (file : List ℕ) (n : ℕ) → n ≡ be16 file 8 → WellFormed file → min n ((length file - be32 file 12) / 8) ≡ n
+all_inside file zero is w = omega arith
+all_inside file (suc n) is w = let last = (w.symbols n (omega arith)).inside in omega arith
 
-pub given_symbols_lem : (file : List ℕ) (h : FileHeader) → Read file h → Faultless file → cond (leb (h.names + 8 * h.symbols) (length file)) (symbols_of file h.names h.symbols) [] ≡ symbols_of file (be32 file 12) (be16 file 8)
-given_symbols_lem file h read f =
-    ap (λ (g : FileHeader). cond (leb (g.names + 8 * g.symbols) (length file)) (symbols_of file g.names g.symbols) []) read.is
-    ∙ symbols_inside file (be16 file 8) refl (well_formed_lem file f)
-
--- runs of 8 bytes are the symbols of a table
-chunks_symbols : (file : List ℕ) (table i n m : ℕ) → n ≤ m → take n (first_chunks 8 m (drop (table + 8 * i) file)) ≡ map (symbol_at file table) (range_with_len i n)
-chunks_symbols file table i zero m h = refl
-chunks_symbols file table i (suc n) zero h = absurd (omega arith)
-chunks_symbols file table i (suc n) (suc m) h =
-    let e : table + 8 * i + 8 ≡ table + 8 * (i + 1) = omega arith in
-    let d : drop 8 (drop (table + 8 * i) file) ≡ drop (table + 8 * (i + 1)) file = drop-drop 8 (table + 8 * i) file ∙ ap (λ (k : ℕ). drop k file) e in
-    ap (λ (l : List ℕ). symbol_at file table i ∷ take n (first_chunks 8 m l)) d ∙ ap (λ (l : List (List ℕ)). symbol_at file table i ∷ l) (chunks_symbols file table (i + 1) n m (omega arith))
-
-pub symbols_given : (file : List ℕ) (table n : ℕ) (rest : List ℕ) (chunks : List (List ℕ)) → rest ≡ drop table file → chunks ≡ first_chunks 8 (length rest / 8) rest → table + 8 * n ≤ length file → take n chunks ≡ cond (leb (table + 8 * n) (length file)) (symbols_of file table n) []
-symbols_given file table n rest chunks er ec inside =
-    let long : length rest ≡ length file - table = ap length er ∙ length-drop table file in
-    let le : n ≤ length rest / 8 = omega arith in
-    let z : table + 8 * 0 ≡ table = omega arith in
-    ap (take n) ec
-    ∙ ap (λ (l : List ℕ). take n (first_chunks 8 (length rest / 8) l)) (er ∙ ap (λ (k : ℕ). drop k file) (sym z))
-    ∙ chunks_symbols file table 0 n (length rest / 8) le
-    ∙ sym (cond-true _ _ _ (le-leb _ _ inside))
+pub given_symbols_lem : (file : List ℕ) (h : FileHeader) → h ≡ header_of file → Faultless file → symbols_inside file h.names h.symbols ≡ symbols_of file (be32 file 12) (be16 file 8)
+given_symbols_lem file h is f =
+    ap (λ (g : FileHeader). symbols_inside file g.names g.symbols) is
+    ∙ ap (symbols_of file (be32 file 12)) (all_inside file (be16 file 8) refl (well_formed_lem file f))

@@ -1,10 +1,12 @@
 // The packets of a session file, one after the other.
 ghost use Rattle.std.specs.Prelude.{◌≡◌};
+ghost use Rattle.std.specs.List.{range_with_len};
 ghost use Rattle.std.specs.Option.{option_map};
 ghost use Rattle.std.specs.Iterator.{YieldsFirstRef, item_count};
-ghost use Rattle.sessionfile.specs.Entries.{pointed_at, pending};
+ghost use Rattle.sessionfile.specs.Entries.{pointed_at, readable, pending};
 
 use crate::array::array_at;
+use crate::header::FileHeader;
 use feed::packet::LONGEST_PACKET;
 use messages::numbers::HEADER_SIZE;
 
@@ -23,10 +25,24 @@ pub(crate) fn packet_of(bytes: &[u8], place: usize) -> Option<&[u8]>
 // What is left of a file's packets.
 #[derive(Drop)]
 pub struct Entries<'a> {
-    pub(crate) bytes: &'a [u8],
-    pub(crate) offsets: u32,
-    pub(crate) next: u32,
-    pub(crate) packets: u32,
+    bytes: &'a [u8],
+    offsets: u32,
+    next: u32,
+    packets: u32,
+}
+
+impl<'a> Entries<'a> {
+    // The packets of a file, by its header.
+    pub(crate) fn new(bytes: &'a [u8], header: FileHeader) -> Entries<'a>
+        ensures { pending result ≡ readable bytes.now header.offsets (range_with_len 0 header.packets) }
+    {
+        Entries {
+            bytes,
+            offsets: header.offsets,
+            next: 0,
+            packets: header.packets,
+        }
+    }
 }
 
 impl<'a> Iterator for Entries<'a> {
