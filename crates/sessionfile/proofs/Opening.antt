@@ -21,7 +21,7 @@ read_header file h e = by (first_fault file (header_fields file)) refl e
   where
     by : (o : Option ℕ) → first_fault file (header_fields file) ≡ o → Ok h ≡ unless o (header_of file) → Read file h
     by None f e = let same : h ≡ header_of file = cc in record { sound = f; is = same }
-    by (Some place) f e = let z : ◌≡◌ {A = ℕ} 0 1 = cc in absurd (omega arith)
+    by (Some place) f e = absurd cc
 
 pub refused_header : (file : List ℕ) (e : Returned) → Err e ≡ unless (first_fault file (header_fields file)) (header_of file) → Err e ≡ file_verdict file
 unfolding fault
@@ -29,14 +29,14 @@ refused_header file e h = by (first_fault file (header_fields file)) _ h
   where
     by : (o rest : Option ℕ) → Err e ≡ unless o (header_of file) → Err e ≡ unless (option_or o rest) (header_of file)
     by (Some place) rest h = h
-    by None rest h = let z : ◌≡◌ {A = ℕ} 0 1 = cc in absurd (omega arith)
+    by None rest h = absurd cc
 
 none_mapped : (o : Option ℕ) → None ≡ option_map (placed 13) o → o ≡ None
 none_mapped None e = refl
-none_mapped (Some place) e = let z : ◌≡◌ {A = ℕ} 0 1 = cc in absurd (omega arith)
+none_mapped (Some place) e = absurd cc
 
 refused_by : (file : List ℕ) (e : Returned) (o rest : Option ℕ) → Some e ≡ option_map (placed 13) o → Err e ≡ unless (option_or o rest) (header_of file)
-refused_by file e None rest h = let z : ◌≡◌ {A = ℕ} 0 1 = cc in absurd (omega arith)
+refused_by file e None rest h = absurd cc
 refused_by file e (Some place) rest h = let same : e ≡ placed 13 place = cc in ap Err same
 
 or_right : (o : Option ℕ) → option_or o None ≡ o

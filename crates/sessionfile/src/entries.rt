@@ -10,16 +10,19 @@ use crate::header::FileHeader;
 use feed::packet::LONGEST_PACKET;
 use messages::numbers::HEADER_SIZE;
 
+// The length of a packet offset.
+pub(crate) const OFFSET_SIZE: usize = 4;
+
 // The packet that the offset at a place points at, where both are wholly inside and its length can be one.
-pub(crate) fn packet_of(bytes: &[u8], place: usize) -> Option<&[u8]>
+fn packet_of(bytes: &[u8], place: usize) -> Option<&[u8]>
     ensures { option_map (λ x. x.now) result ≡ pointed_at bytes.now place }
 {
     let at = u32::from_be_bytes(*array_at(bytes, place)?) as usize;
     let length = u16::from_be_bytes(*array_at(bytes, at)?) as usize;
-    if length < HEADER_SIZE || length > LONGEST_PACKET || length > bytes.len() - at {
+    if length < HEADER_SIZE || length > LONGEST_PACKET {
         return None;
     }
-    Some(&bytes[at..at + length])
+    bytes.get(at..at + length)
 }
 
 // What is left of a file's packets.
@@ -52,11 +55,13 @@ impl<'a> Iterator for Entries<'a> {
 
     ghost remaining = { item_count pending };
 
+    // An index of its own: a range would pass over an offset that points at no packet, and nothing may come after None.
     fn next(&mut self) -> Option<&'a [u8]> {
         if self.next >= self.packets {
             return None;
         }
-        let packet = packet_of(self.bytes, self.offsets as usize + 4 * self.next as usize)?;
+        let place = self.offsets as usize + OFFSET_SIZE * self.next as usize;
+        let packet = packet_of(self.bytes, place)?;
         self.next += 1;
         Some(packet)
     }

@@ -4,18 +4,16 @@ ghost use Rattle.std.specs.Option.{option_map};
 ghost use Rattle.codes.specs.Refusals.{answered, refusal_of, placed};
 ghost use Rattle.messages.specs.Wire.{byte};
 ghost use Rattle.sessionfile.specs.Layout.{WellFormed};
-ghost use Rattle.sessionfile.specs.Files.{header_of, packet_offsets, symbols_of, symbol_fields, first_fault, fault, file_verdict, symbols_inside, good_symbol};
+ghost use Rattle.sessionfile.specs.Files.{header_of, packet_offsets, symbol_fields, first_fault, fault, file_verdict, symbols_inside, good_symbol};
 
-use crate::entries::Entries;
+use crate::entries::{Entries, OFFSET_SIZE};
 use crate::header::FileHeader;
 use codes::refusal::Refusal;
 use messages::symbol::{Symbol, is_well_formed};
 use replay::store::is_packet;
 
-// The lengths of the fields of the two tables.
-const OFFSET: usize = 4;
-
-const SYMBOL: usize = 8;
+// The length of a symbol's field.
+const SYMBOL_SIZE: usize = 8;
 
 // A file that was opened: its header was read, and no field of it is at fault.
 #[derive(Clone, Copy)]
@@ -83,7 +81,7 @@ fn check_packets(bytes: &[u8], header: FileHeader) -> Result<(), Refusal>
 {
     let good = Entries::new(bytes, header).count();
     if good < header.packets as usize {
-        return Err(Refusal::BrokenFile(header.offsets as usize + OFFSET * good));
+        return Err(Refusal::BrokenFile(header.offsets as usize + OFFSET_SIZE * good));
     }
     Ok(())
 }
@@ -94,7 +92,7 @@ fn check_symbols(bytes: &[u8], header: FileHeader) -> Result<(), Refusal>
 {
     let good = good_symbols(symbols_inside(bytes, header));
     if good < header.symbols as usize {
-        return Err(Refusal::BrokenFile(header.names as usize + SYMBOL * good));
+        return Err(Refusal::BrokenFile(header.names as usize + SYMBOL_SIZE * good));
     }
     Ok(())
 }
@@ -106,7 +104,7 @@ fn symbols_inside(bytes: &[u8], header: FileHeader) -> &[Symbol]
     let (symbols, _) = bytes
         .get(header.names as usize..)
         .unwrap_or(&[])
-        .as_chunks::<SYMBOL>();
+        .as_chunks::<SYMBOL_SIZE>();
     let inside = symbols.len().min(header.symbols as usize);
     &symbols[..inside]
 }
