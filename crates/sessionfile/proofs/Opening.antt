@@ -23,25 +23,32 @@ read_header file h e = by (first_fault file (header_fields file)) refl e
     by None f e = let same : h ≡ header_of file = cc in record { sound = f; is = same }
     by (Some place) f e = absurd cc
 
-pub refused_header : (file : List ℕ) (e : Returned) → Err e ≡ unless (first_fault file (header_fields file)) (header_of file) → Err e ≡ file_verdict file
-unfolding fault
-refused_header file e h = by (first_fault file (header_fields file)) _ h
-  where
-    by : (o rest : Option ℕ) → Err e ≡ unless o (header_of file) → Err e ≡ unless (option_or o rest) (header_of file)
-    by (Some place) rest h = h
-    by None rest h = absurd cc
-
 none_mapped : (o : Option ℕ) → None ≡ option_map (placed 13) o → o ≡ None
 none_mapped None e = refl
 none_mapped (Some place) e = absurd cc
 
-refused_by : (file : List ℕ) (e : Returned) (o rest : Option ℕ) → Some e ≡ option_map (placed 13) o → Err e ≡ unless (option_or o rest) (header_of file)
-refused_by file e None rest h = absurd cc
-refused_by file e (Some place) rest h = let same : e ≡ placed 13 place = cc in ap Err same
-
 or_right : (o : Option ℕ) → option_or o None ≡ o
 or_right None = refl
 or_right (Some place) = refl
+
+-- the first of three groups with a field at fault says the verdict
+module _ (h : FileHeader) (e : Returned) where
+  by_first : (a rest : Option ℕ) → Err e ≡ unless a h → Err e ≡ unless (option_or a rest) h
+  by_first (Some place) rest r = r
+  by_first None rest r = absurd cc
+
+  by_second : (a b rest : Option ℕ) → a ≡ None → Some e ≡ option_map (placed 13) b → Err e ≡ unless (option_or a (option_or b rest)) h
+  by_second None (Some place) rest sound r = cc
+  by_second None None rest sound r = absurd cc
+  by_second (Some place) b rest sound r = absurd cc
+
+  by_third : (a b c : Option ℕ) → a ≡ None → b ≡ None → Some e ≡ option_map (placed 13) c → Err e ≡ unless (option_or a (option_or b c)) h
+  by_third a None c first second r = by_second a c None first r ∙ ap (λ (o : Option ℕ). unless (option_or a o) h) (or_right c)
+  by_third a (Some place) c first second r = absurd cc
+
+pub refused_header : (file : List ℕ) (e : Returned) → Err e ≡ unless (first_fault file (header_fields file)) (header_of file) → Err e ≡ file_verdict file
+unfolding fault
+refused_header file e r = by_first (header_of file) e _ _ r
 
 module _ (file : List ℕ) (h : FileHeader) (read : Read file h) where
   packets_same : first_fault file (packet_offsets file h.offsets h.packets) ≡ first_fault file (packet_offsets file (be32 file 4) (be32 file 0))
@@ -52,24 +59,18 @@ module _ (file : List ℕ) (h : FileHeader) (read : Read file h) where
 
   pub refused_packets : (e : Returned) → Some e ≡ option_map (placed 13) (first_fault file (packet_offsets file h.offsets h.packets)) → Err e ≡ file_verdict file
   unfolding fault
-  refused_packets e r =
-      refused_by file e _ _ (r ∙ ap (option_map (placed 13)) packets_same)
-      ∙ ap (λ (o : Option ℕ). unless (option_or o (option_or (first_fault file (packet_offsets file (be32 file 4) (be32 file 0))) (first_fault file (symbol_fields file (be32 file 12) (be16 file 8))))) (header_of file)) (sym read.sound)
+  refused_packets e r = by_second (header_of file) e _ _ _ read.sound (r ∙ ap (option_map (placed 13)) packets_same)
 
   module _ (packets : None ≡ option_map (placed 13) (first_fault file (packet_offsets file h.offsets h.packets))) where
     packets_sound : first_fault file (packet_offsets file (be32 file 4) (be32 file 0)) ≡ None
-    packets_sound = none_mapped _ (packets ∙ ap (option_map (placed 13)) packets_same)
+    packets_sound = sym packets_same ∙ none_mapped _ packets
 
     pub refused_symbols : (e : Returned) → Some e ≡ option_map (placed 13) (first_fault file (symbol_fields file h.names h.symbols)) → Err e ≡ file_verdict file
     unfolding fault
-    refused_symbols e r =
-        refused_by file e _ None (r ∙ ap (option_map (placed 13)) symbols_same)
-        ∙ ap (λ (o : Option ℕ). unless o (header_of file)) (or_right (first_fault file (symbol_fields file (be32 file 12) (be16 file 8))))
-        ∙ ap (λ (o : Option ℕ). unless (option_or o (first_fault file (symbol_fields file (be32 file 12) (be16 file 8)))) (header_of file)) (sym packets_sound)
-        ∙ ap (λ (o : Option ℕ). unless (option_or o (option_or (first_fault file (packet_offsets file (be32 file 4) (be32 file 0))) (first_fault file (symbol_fields file (be32 file 12) (be16 file 8))))) (header_of file)) (sym read.sound)
+    refused_symbols e r = by_third (header_of file) e _ _ _ read.sound packets_sound (r ∙ ap (option_map (placed 13)) symbols_same)
 
     pub all_checked : None ≡ option_map (placed 13) (first_fault file (symbol_fields file h.names h.symbols)) → Faultless file
-    all_checked symbols = record { header = read.sound; packets = packets_sound; symbols = none_mapped _ (symbols ∙ ap (option_map (placed 13)) symbols_same) }
+    all_checked symbols = record { header = read.sound; packets = packets_sound; symbols = sym symbols_same ∙ none_mapped _ symbols }
 
   pub opened : Faultless file → Ok h ≡ file_verdict file
   opened f = ap Ok read.is ∙ ap (λ (o : Option ℕ). unless o (header_of file)) (sym (no_fault file f))
