@@ -2,6 +2,7 @@
 ghost use Rattle.std.specs.Prelude.{◌≡◌, ◌-◌, length};
 ghost use Rattle.std.specs.Iterator.{at_most};
 ghost use Rattle.decode.specs.Lengths.{packet_length};
+ghost use Rattle.decode.specs.Packets.{Next};
 
 use codes::refusal::Refusal;
 use feed::packet::LONGEST_PACKET;
@@ -27,13 +28,18 @@ pub struct Packets<'a> {
 }
 
 impl<'a> Packets<'a> {
-    pub fn new(bytes: &'a [u8]) -> Packets<'a> {
+    pub fn new(bytes: &'a [u8]) -> Packets<'a>
+        ensures feed { result.bytes.now ≡ bytes.now }
+        ensures start { result.at ≡ 0 }
+    {
         Packets { bytes, at: 0 }
     }
 }
 
 impl<'a> Iterator for Packets<'a> {
     type Item = (usize, Result<&'a [u8], Refusal>);
+
+    ghost next_gives = { Next };
 
     ghost remaining = { λ s. at_most (length s.bytes.now - s.at) };
 
@@ -44,16 +50,15 @@ impl<'a> Iterator for Packets<'a> {
             return None;
         }
         let rest = &bytes[at..];
-        let packet = match packet_length(rest) {
+        match packet_length(rest) {
             Some(length) => {
                 self.at = at + length;
-                Ok(&rest[..length])
+                Some((at, Ok(&rest[..length])))
             }
             None => {
                 self.at = bytes.len();
-                Err(Refusal::PacketLength)
+                Some((at, Err(Refusal::PacketLength)))
             }
-        };
-        Some((at, packet))
+        }
     }
 }
