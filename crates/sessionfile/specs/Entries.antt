@@ -38,9 +38,6 @@ readable file table (i ∷ is) = then_readable (pointed_at file (table + 4 * i))
 abbrev pub given : SessionFile → List (List ℕ)
 given f = entries f.bytes.now
 
-abbrev pub given_symbols : SessionFile → List (List ℕ)
-given_symbols f = symbols f.bytes.now
-
 -- what is still to come of the packets
 abbrev pub entries_left : Entries → ℕ
 entries_left e = e.packets - e.next

@@ -26,7 +26,7 @@ pub struct SessionFile<'a> {
 
 impl<'a> SessionFile<'a> {
     ghost use Rattle.replay.specs.Stores.{holding};
-    ghost use Rattle.sessionfile.specs.Entries.{entries, given, given_symbols, pending};
+    ghost use Rattle.sessionfile.specs.Entries.{entries, symbols, pending};
     ghost use Rattle.sessionfile.specs.Held.{FileHolds};
 
     // Checks the whole file: refusal 13 at the first field at fault, of the header, then of the packet offsets, then of
@@ -52,21 +52,21 @@ impl<'a> SessionFile<'a> {
 
     // The packets, in the order of their offsets.
     pub fn entries(self) -> Entries<'a>
-        ensures { pending result ≡ given self.entry }
+        ensures { pending result ≡ entries self.entry.bytes.now }
     {
         Entries::new(self.bytes, self.header)
     }
 
     // The symbols, in the order of the file.
     pub fn symbols(self) -> &'a [Symbol]
-        ensures { result.now ≡ given_symbols self.entry }
+        ensures { result.now ≡ symbols self.entry.bytes.now }
     {
         symbols_inside(self.bytes, self.header)
     }
 
     // The first packet of type M with the file's subscription and this number, as a part of the file.
     pub fn packet(self, number: u32) -> Option<&'a [u8]>
-        ensures finds { option_map (λ x. x.now) result ≡ holding self.entry.header.subscription (given self.entry) number }
+        ensures finds { option_map (λ x. x.now) result ≡ holding self.entry.header.subscription (entries self.entry.bytes.now) number }
         ensures short { IfSome result (λ p. length p.now ≤ 8192) }
     {
         let subscription = self.header.subscription;
@@ -74,6 +74,8 @@ impl<'a> SessionFile<'a> {
             .find(|packet| is_packet(packet, subscription, number))
     }
 }
+
+// The checks take a file's bytes and header: a SessionFile, which has both, is made only once they have passed.
 
 // Whether each packet offset points at a packet, else refusal 13 at the first that does not.
 fn check_packets(bytes: &[u8], header: FileHeader) -> Result<(), Refusal>
