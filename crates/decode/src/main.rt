@@ -1,40 +1,55 @@
 // Prints packets and their messages: of a feed, where they follow one another, or of a session file.
 #![tactic(auto)]
 
+mod packets;
 mod show;
 
-ghost use Rattle.std.specs.Prelude.{◌≡◌};
-ghost use Rattle.decode.specs.Lengths.{packet_length};
-
-use crate::show::{show_file, show_packet};
-use feed::packet::LONGEST_PACKET;
-use messages::numbers::HEADER_SIZE;
+use crate::packets::Packets;
+use crate::show::Shown;
+use feed::packet::Packet;
+use sessionfile::file::SessionFile;
 use std::io::Read;
 use std::{env, fs, io};
 
-// How long the first packet of `bytes` says it is, where that can be right: 8 to 8,192 bytes, and all of them there.
-fn packet_length(bytes: &[u8]) -> Option<usize>
-    ensures { result ≡ packet_length bytes.now }
-{
-    let [high, low, ..] = bytes else {
-        return None;
-    };
-    let said = u16::from_be_bytes([*high, *low]) as usize;
-    if said >= HEADER_SIZE && said <= LONGEST_PACKET && said <= bytes.len() {
-        Some(said)
-    } else {
-        None
+fn show_feed(rt: &HostRuntime, bytes: &[u8]) -> io::Result<()> {
+    for (at, packet) in Packets::new(bytes) {
+        match packet {
+            Ok(packet) => show_packet(rt, at, packet)?,
+            Err(refusal) => println!(rt; "packet {at} {}", Shown(refusal))?,
+        }
     }
+    Ok(())
 }
 
-fn show_all(rt: &HostRuntime, bytes: &[u8]) -> io::Result<()> {
-    let mut at = 0;
-    while at < bytes.len() {
-        let Some(length) = packet_length(&bytes[at..]) else {
-            return println!(rt; "packet {at} refused 1");
-        };
-        show_packet(rt, at, &bytes[at..at + length])?;
-        at += length;
+// A session file: its header, its symbols, and then its packets by their index from 1.
+fn show_file(rt: &HostRuntime, bytes: &[u8]) -> io::Result<()> {
+    let file = match SessionFile::open(bytes) {
+        Ok(file) => file,
+        Err(refusal) => return println!(rt; "file {}", Shown(refusal)),
+    };
+    println!(rt; "file {}", Shown(file.header()))?;
+    for symbol in file.symbols() {
+        println!(rt; "symbol {}", Shown(*symbol))?;
+    }
+    for (index, packet) in (1u32..).zip(file.entries()) {
+        show_packet(rt, index as usize, packet)?;
+    }
+    Ok(())
+}
+
+// A packet is read as one of its own subscription.
+fn show_packet(rt: &HostRuntime, at: usize, bytes: &[u8]) -> io::Result<()> {
+    let subscription = bytes.get(3).copied().unwrap_or(0);
+    let packet = match Packet::read(bytes, subscription) {
+        Ok(packet) => packet,
+        Err(refusal) => return println!(rt; "packet {at} {}", Shown(refusal)),
+    };
+    println!(rt; "packet {at} {}", Shown(packet.header()))?;
+    for item in packet.messages() {
+        match item {
+            Ok((offset, message)) => println!(rt; "  {offset} {}", Shown(message))?,
+            Err(refusal) => println!(rt; "  {}", Shown(refusal))?,
+        }
     }
     Ok(())
 }
@@ -42,16 +57,16 @@ fn show_all(rt: &HostRuntime, bytes: &[u8]) -> io::Result<()> {
 fn show_input(rt: &HostRuntime) -> io::Result<()> {
     let mut bytes = Vec::new(rt.alloc());
     rt.stdin().read_to_end(&mut bytes)?;
-    show_all(rt, bytes.as_slice())
+    show_feed(rt, bytes.as_slice())
 }
 
 // Each argument names a session file, or with `-` the feed on standard input, which is also read where there is none.
 fn main(rt: HostRuntime) -> io::Result<()> {
-    let mut names = env::args(&rt)?;
-    let _ = names.next();
-    let mut named = false;
+    let mut names = env::args(&rt)?.skip(1).peekable();
+    if names.peek().is_none() {
+        return show_input(&rt);
+    }
     for name in names {
-        named = true;
         if name.as_str() == "-" {
             show_input(&rt)?;
         } else {
@@ -59,5 +74,5 @@ fn main(rt: HostRuntime) -> io::Result<()> {
             show_file(&rt, bytes.as_slice())?;
         }
     }
-    if named { Ok(()) } else { show_input(&rt) }
+    Ok(())
 }

@@ -1,147 +1,145 @@
-// A line for each packet and for each message, or for its refusal.
+// How lines show what they name, a part of each line for a value of each type.
 use codes::refusal::Refusal;
-use feed::packet::Packet;
+use feed::packet::Header;
 use messages::fields::{EventFields, EventForm, ImbalanceFields, QuoteFields};
 use messages::message::Message;
 use messages::symbol::Symbol;
-use sessionfile::file::SessionFile;
 use sessionfile::header::FileHeader;
-use std::{fmt, io};
+use std::fmt;
+
+// A value as a line shows it.
+#[derive(Drop)]
+pub struct Shown<T>(pub T);
 
 // A symbol without the nulls after it.
-#[derive(Drop)]
-struct Name(Symbol);
-
-impl fmt::Display for Name {
+impl fmt::Display for Shown<Symbol> {
     fn fmt<W: fmt::Write>(&self, f: &mut fmt::Formatter<W>) -> fmt::Result {
         for byte in self.0 {
             if byte != 0 {
-                let c = char::from(byte);
-                write!(f, "{c}")?;
+                f.write_char(char::from(byte))?;
             }
         }
         Ok(())
     }
 }
 
-// A session file: its header, its symbols, and then its packets by their index from 1.
-pub fn show_file(rt: &HostRuntime, bytes: &[u8]) -> io::Result<()> {
-    let file = match SessionFile::open(bytes) {
-        Ok(file) => file,
-        Err(refusal) => {
-            print!(rt; "file ")?;
-            return show_refusal(rt, refusal);
-        }
-    };
-    show_header(rt, file.header())?;
-    for symbol in file.symbols() {
-        let name = Name(*symbol);
-        println!(rt; "symbol {name}")?;
-    }
-    let mut index = 0usize;
-    for entry in file.entries() {
-        index = index.saturating_add(1);
-        show_packet(rt, index, entry)?;
-    }
-    Ok(())
-}
-
-fn show_header(rt: &HostRuntime, header: FileHeader) -> io::Result<()> {
-    let subscription = header.subscription;
-    let kind = char::from(header.kind.code());
-    let packets = header.packets;
-    let symbols = header.symbols;
-    println!(rt; "file subscription {subscription} kind {kind} packets {packets} symbols {symbols}")
-}
-
-// A packet is read as one of its own subscription.
-pub fn show_packet(rt: &HostRuntime, at: usize, bytes: &[u8]) -> io::Result<()> {
-    let subscription = bytes.get(3).copied().unwrap_or(0);
-    let packet = match Packet::read(bytes, subscription) {
-        Ok(packet) => packet,
-        Err(refusal) => {
-            print!(rt; "packet {at} ")?;
-            return show_refusal(rt, refusal);
-        }
-    };
-    let header = packet.header();
-    let number = header.number;
-    let code = char::from(header.kind.code());
-    println!(rt; "packet {at} {code} subscription {subscription} number {number}")?;
-    for item in packet.messages() {
-        match item {
-            Ok((offset, message)) => show_message(rt, offset, message)?,
-            Err(refusal) => {
-                print!(rt; "  ")?;
-                show_refusal(rt, refusal)?;
-            }
+impl fmt::Display for Shown<Refusal> {
+    fn fmt<W: fmt::Write>(&self, f: &mut fmt::Formatter<W>) -> fmt::Result {
+        let number = self.0.number();
+        match self.0.place() {
+            Some(place) => write!(f, "refused {number} at {place}"),
+            None => write!(f, "refused {number}"),
         }
     }
-    Ok(())
 }
 
-fn show_refusal(rt: &HostRuntime, refusal: Refusal) -> io::Result<()> {
-    let number = refusal.number();
-    match refusal.place() {
-        Some(place) => println!(rt; "refused {number} at {place}"),
-        None => println!(rt; "refused {number}"),
+impl fmt::Display for Shown<FileHeader> {
+    fn fmt<W: fmt::Write>(&self, f: &mut fmt::Formatter<W>) -> fmt::Result {
+        let FileHeader {
+            packets,
+            symbols,
+            subscription,
+            kind,
+            ..
+        } = self.0;
+        let kind = char::from(kind.code());
+        write!(
+            f,
+            "subscription {subscription} kind {kind} packets {packets} symbols {symbols}"
+        )
     }
 }
 
-fn show_message(rt: &HostRuntime, offset: usize, message: Message) -> io::Result<()> {
-    print!(rt; "  {offset} ")?;
-    match message {
-        Message::Quote(quote) => show_quote(rt, quote.fields()),
-        Message::Imbalance(imbalance) => show_imbalance(rt, imbalance.fields()),
-        Message::Event(event) => show_event(rt, event.fields()),
+impl fmt::Display for Shown<Header> {
+    fn fmt<W: fmt::Write>(&self, f: &mut fmt::Formatter<W>) -> fmt::Result {
+        let Header {
+            kind,
+            subscription,
+            number,
+        } = self.0;
+        let kind = char::from(kind.code());
+        write!(f, "{kind} subscription {subscription} number {number}")
     }
 }
 
-fn show_quote(rt: &HostRuntime, quote: QuoteFields) -> io::Result<()> {
-    let stamp = quote.stamp;
-    let number = quote.number;
-    let symbol = Name(quote.symbol);
-    let side = char::from(quote.side.code());
-    let insert = quote.insert.number();
-    let delete = quote.delete.number();
-    let contracts = quote.contracts;
-    let price = quote.price;
-    print!(rt; "quote stamp {stamp} number {number} symbol {symbol} side {side} ")?;
-    println!(rt; "insert {insert} delete {delete} contracts {contracts} price {price}")
+impl<'a> fmt::Display for Shown<Message<'a>> {
+    fn fmt<W: fmt::Write>(&self, f: &mut fmt::Formatter<W>) -> fmt::Result {
+        match self.0 {
+            Message::Quote(quote) => Shown(quote.fields()).fmt(f),
+            Message::Imbalance(imbalance) => Shown(imbalance.fields()).fmt(f),
+            Message::Event(event) => Shown(event.fields()).fmt(f),
+        }
+    }
 }
 
-fn show_imbalance(rt: &HostRuntime, imbalance: ImbalanceFields) -> io::Result<()> {
-    let stamp = imbalance.stamp;
-    let number = imbalance.number;
-    let symbol = Name(imbalance.symbol);
-    let auction = char::from(imbalance.auction.code());
-    let time = imbalance.time;
-    let contracts = imbalance.contracts;
-    let price = imbalance.price;
-    let total = imbalance.total;
-    let market = imbalance.market;
-    print!(rt;
-        "imbalance stamp {stamp} number {number} symbol {symbol} auction {auction} time {time} "
-    )?;
-    println!(rt; "contracts {contracts} price {price} total {total} market {market}")
-}
-
-fn show_event(rt: &HostRuntime, event: EventFields) -> io::Result<()> {
-    let stamp = event.stamp;
-    match event.form {
-        EventForm::Numbered {
+impl fmt::Display for Shown<QuoteFields> {
+    fn fmt<W: fmt::Write>(&self, f: &mut fmt::Formatter<W>) -> fmt::Result {
+        let QuoteFields {
+            stamp,
             number,
             symbol,
-            code,
-        } => {
-            let symbol = Name(symbol);
-            let code = char::from(code.code());
-            println!(rt; "event stamp {stamp} number {number} symbol {symbol} code {code}")
+            side,
+            insert,
+            delete,
+            contracts,
+            price,
+        } = self.0;
+        let symbol = Shown(symbol);
+        let side = char::from(side.code());
+        let insert = insert.number();
+        let delete = delete.number();
+        write!(
+            f,
+            "quote stamp {stamp} number {number} symbol {symbol} side {side} \
+             insert {insert} delete {delete} contracts {contracts} price {price}"
+        )
+    }
+}
+
+impl fmt::Display for Shown<ImbalanceFields> {
+    fn fmt<W: fmt::Write>(&self, f: &mut fmt::Formatter<W>) -> fmt::Result {
+        let ImbalanceFields {
+            stamp,
+            number,
+            symbol,
+            auction,
+            time,
+            contracts,
+            price,
+            total,
+            market,
+        } = self.0;
+        let symbol = Shown(symbol);
+        let auction = char::from(auction.code());
+        write!(
+            f,
+            "imbalance stamp {stamp} number {number} symbol {symbol} auction {auction} time {time} \
+             contracts {contracts} price {price} total {total} market {market}"
+        )
+    }
+}
+
+impl fmt::Display for Shown<EventFields> {
+    fn fmt<W: fmt::Write>(&self, f: &mut fmt::Formatter<W>) -> fmt::Result {
+        let EventFields { stamp, form } = self.0;
+        match form {
+            EventForm::Numbered {
+                number,
+                symbol,
+                code,
+            } => {
+                let symbol = Shown(symbol);
+                let code = char::from(code.code());
+                write!(
+                    f,
+                    "event stamp {stamp} number {number} symbol {symbol} code {code}"
+                )
+            }
+            EventForm::Underlying(code) => {
+                let code = char::from(code.code());
+                write!(f, "underlying stamp {stamp} code {code}")
+            }
+            EventForm::Reset => write!(f, "reset stamp {stamp}"),
         }
-        EventForm::Underlying(code) => {
-            let code = char::from(code.code());
-            println!(rt; "underlying stamp {stamp} code {code}")
-        }
-        EventForm::Reset => println!(rt; "reset stamp {stamp}"),
     }
 }

@@ -25,10 +25,10 @@ module _ (file : List ℕ) where
     where
       by : (b : Bool) → (leb (place + size) (length file) && good) ≡ b → cond b (first_fault file fs) (Some place) ≡ None → ((leb (place + size) (length file) && good) ≡ true) × (first_fault file fs ≡ None)
       by true e f = (e, f)
-      by false e f = let z : ◌≡◌ {A = ℕ} 0 1 = cc in absurd (omega arith)
+      by false e f = absurd cc
 
-  sound_then : (f : Field) (fs : List Field) → sound file f ≡ true → first_fault file fs ≡ None → first_fault file (f ∷ fs) ≡ None
-  sound_then (field place size good) fs s h = ap (λ (b : Bool). cond b (first_fault file fs) (Some place)) s ∙ h
+  pub sound_skips : (f : Field) (fs : List Field) → sound file f ≡ true → first_fault file (f ∷ fs) ≡ first_fault file fs
+  sound_skips (field place size good) fs s = ap (λ (b : Bool). cond b (first_fault file fs) (Some place)) s
 
   abbrev AllSound : List Field → Type 0
   AllSound [] = Unit {0}
@@ -40,7 +40,7 @@ module _ (file : List ℕ) where
 
   sound_each : (fs : List Field) → AllSound fs → first_fault file fs ≡ None
   sound_each [] h = refl
-  sound_each (f ∷ fs) h = sound_then f fs h.0 (sound_each fs h.1)
+  sound_each (f ∷ fs) h = sound_skips f fs h.0 ∙ sound_each fs h.1
 
   all_sound : (at : ℕ → Field) (a n : ℕ) → first_fault file (map at (range_with_len a n)) ≡ None → (i : ℕ) → a ≤ i → i < a + n → sound file (at i) ≡ true
   all_sound at a zero h i low high = absurd (omega arith)
@@ -48,13 +48,13 @@ module _ (file : List ℕ) where
       let p = first_sound (at a) (map at (range_with_len (a + 1) n)) h in
       elim (cases_eq a i) [ inl e ↦ ap (λ (j : ℕ). sound file (at j)) (sym e) ∙ p.0 | inr ne ↦ all_sound at (a + 1) n p.1 i (omega arith) (omega arith) ]
 
-  sound_all : (at : ℕ → Field) (a n : ℕ) → ((i : ℕ) → a ≤ i → i < a + n → sound file (at i) ≡ true) → first_fault file (map at (range_with_len a n)) ≡ None
+  pub sound_all : (at : ℕ → Field) (a n : ℕ) → ((i : ℕ) → a ≤ i → i < a + n → sound file (at i) ≡ true) → first_fault file (map at (range_with_len a n)) ≡ None
   sound_all at a zero h = refl
-  sound_all at a (suc n) h = sound_then (at a) (map at (range_with_len (a + 1) n)) (h a (omega arith) (omega arith)) (sound_all at (a + 1) n (λ i low high. h i (omega arith) (omega arith)))
+  sound_all at a (suc n) h = sound_skips (at a) (map at (range_with_len (a + 1) n)) (h a (omega arith) (omega arith)) ∙ sound_all at (a + 1) n (λ i low high. h i (omega arith) (omega arith))
 
 -- a symbol among others
 differs : (s t : List ℕ) → bytes_eq s t ≡ false → s ≡ t → ⊥
-differs s t h e = let same = (bytes_eq-Decides s t).1 e in let z : ◌≡◌ {A = ℕ} 0 1 = cc in absurd (omega arith)
+differs s t h e = let same = (bytes_eq-Decides s t).1 e in absurd cc
 
 apart : (s t : List ℕ) → (s ≡ t → ⊥) → bytes_eq s t ≡ false
 apart s t h = by (bytes_eq s t) refl
@@ -91,11 +91,11 @@ kind_from code h = by (coded kind_code kinds code) refl h
   where
     by : (o : Option KindCode) → coded kind_code kinds code ≡ o → is_some o ≡ true → Kind code
     by (Some k) f h = record { kind = k; is = coded_is kind_code kinds code k f }
-    by None f h = let z : ◌≡◌ {A = ℕ} 0 1 = cc in absurd (omega arith)
+    by None f h = absurd cc
 
 or_none : (a b : Option ℕ) → option_or a b ≡ None → (a ≡ None) × (b ≡ None)
 or_none None b h = (refl, h)
-or_none (Some x) b h = let z : ◌≡◌ {A = ℕ} 0 1 = cc in absurd (omega arith)
+or_none (Some x) b h = absurd cc
 
 -- the three groups of fields
 pub record Faultless (file : List ℕ) : Type 0 where
@@ -197,4 +197,4 @@ module _ (file : List ℕ) where
     where
       ok_none : (o : Option ℕ) → fault file ≡ o → is_ok (unless o (header_of file)) ≡ true → fault file ≡ None
       ok_none None e h = e
-      ok_none (Some place) e h = let z : ◌≡◌ {A = ℕ} 0 1 = cc in absurd (omega arith)
+      ok_none (Some place) e h = absurd cc

@@ -1,3 +1,3 @@
-pub mod Steps
 pub mod Faults
 pub mod Opening
+pub mod Tables

@@ -1,14 +1,12 @@
 -- What opening answers, from what its checks answer, and what an opened file gives.
-use Rattle.std.proofs.Common.{◌≡◌, ℕ, zero, suc, ◌+◌, ◌-◌, ◌*◌, ◌/◌, ◌≤◌, Bool, true, false, cond, leb, List, [], ◌∷◌, map, length, take, drop, Some, None, Ok, Err, Option, sym, refl, ap, ◌∙◌, arith, length-drop}
-use Rattle.std.proofs.lemmas.List.{drop-drop}
-use Rattle.std.proofs.lemmas.Bool.{cond-true, le-leb}
+use Rattle.std.proofs.Common.{◌≡◌, ℕ, zero, suc, ◌+◌, ◌-◌, ◌*◌, ◌/◌, min, List, [], ◌∷◌, map, length, Some, None, Ok, Err, Option, sym, refl, ap, ◌∙◌, arith}
+use Rattle.std.proofs.lemmas.Bool.{cond-true}
 use Rattle.std.specs.List.{range_with_len}
 use Rattle.std.specs.Option.{option_map, option_or}
-use Rattle.std.specs.Simd.{first_chunks}
 use Rattle.codes.specs.Refusals.{Returned, placed}
 use Rattle.messages.specs.Wire.{be16, be32}
 use Rattle.sessionfile.specs.Entries.{packet_from, readable, then_readable}
-use Rattle.sessionfile.specs.Files.{header_fields, packet_offset, packet_offsets, symbol_at, symbols_of, symbol_fields, first_fault, fault, unless, header_of, file_verdict}
+use Rattle.sessionfile.specs.Files.{header_fields, packet_offset, packet_offsets, symbols_of, symbols_inside, symbol_fields, first_fault, fault, unless, header_of, file_verdict}
 use Rattle.sessionfile.specs.Layout.{WellFormed}
 use Rattle.sessionfile.specs.declared.header.FileHeader.{FileHeader}
 use Rattle.sessionfile.proofs.Faults.{Faultless, first_sound, no_fault, well_formed_lem}
@@ -23,27 +21,34 @@ read_header file h e = by (first_fault file (header_fields file)) refl e
   where
     by : (o : Option ℕ) → first_fault file (header_fields file) ≡ o → Ok h ≡ unless o (header_of file) → Read file h
     by None f e = let same : h ≡ header_of file = cc in record { sound = f; is = same }
-    by (Some place) f e = let z : ◌≡◌ {A = ℕ} 0 1 = cc in absurd (omega arith)
-
-pub refused_header : (file : List ℕ) (e : Returned) → Err e ≡ unless (first_fault file (header_fields file)) (header_of file) → Err e ≡ file_verdict file
-unfolding fault
-refused_header file e h = by (first_fault file (header_fields file)) _ h
-  where
-    by : (o rest : Option ℕ) → Err e ≡ unless o (header_of file) → Err e ≡ unless (option_or o rest) (header_of file)
-    by (Some place) rest h = h
-    by None rest h = let z : ◌≡◌ {A = ℕ} 0 1 = cc in absurd (omega arith)
+    by (Some place) f e = absurd cc
 
 none_mapped : (o : Option ℕ) → None ≡ option_map (placed 13) o → o ≡ None
 none_mapped None e = refl
-none_mapped (Some place) e = let z : ◌≡◌ {A = ℕ} 0 1 = cc in absurd (omega arith)
-
-refused_by : (file : List ℕ) (e : Returned) (o rest : Option ℕ) → Some e ≡ option_map (placed 13) o → Err e ≡ unless (option_or o rest) (header_of file)
-refused_by file e None rest h = let z : ◌≡◌ {A = ℕ} 0 1 = cc in absurd (omega arith)
-refused_by file e (Some place) rest h = let same : e ≡ placed 13 place = cc in ap Err same
+none_mapped (Some place) e = absurd cc
 
 or_right : (o : Option ℕ) → option_or o None ≡ o
 or_right None = refl
 or_right (Some place) = refl
+
+-- the first of three groups with a field at fault says the verdict
+module _ (h : FileHeader) (e : Returned) where
+  by_first : (a rest : Option ℕ) → Err e ≡ unless a h → Err e ≡ unless (option_or a rest) h
+  by_first (Some place) rest r = r
+  by_first None rest r = absurd cc
+
+  by_second : (a b rest : Option ℕ) → a ≡ None → Some e ≡ option_map (placed 13) b → Err e ≡ unless (option_or a (option_or b rest)) h
+  by_second None (Some place) rest sound r = cc
+  by_second None None rest sound r = absurd cc
+  by_second (Some place) b rest sound r = absurd cc
+
+  by_third : (a b c : Option ℕ) → a ≡ None → b ≡ None → Some e ≡ option_map (placed 13) c → Err e ≡ unless (option_or a (option_or b c)) h
+  by_third a None c first second r = by_second a c None first r ∙ ap (λ (o : Option ℕ). unless (option_or a o) h) (or_right c)
+  by_third a (Some place) c first second r = absurd cc
+
+pub refused_header : (file : List ℕ) (e : Returned) → Err e ≡ unless (first_fault file (header_fields file)) (header_of file) → Err e ≡ file_verdict file
+unfolding fault
+refused_header file e r = by_first (header_of file) e _ _ r
 
 module _ (file : List ℕ) (h : FileHeader) (read : Read file h) where
   packets_same : first_fault file (packet_offsets file h.offsets h.packets) ≡ first_fault file (packet_offsets file (be32 file 4) (be32 file 0))
@@ -54,24 +59,18 @@ module _ (file : List ℕ) (h : FileHeader) (read : Read file h) where
 
   pub refused_packets : (e : Returned) → Some e ≡ option_map (placed 13) (first_fault file (packet_offsets file h.offsets h.packets)) → Err e ≡ file_verdict file
   unfolding fault
-  refused_packets e r =
-      refused_by file e _ _ (r ∙ ap (option_map (placed 13)) packets_same)
-      ∙ ap (λ (o : Option ℕ). unless (option_or o (option_or (first_fault file (packet_offsets file (be32 file 4) (be32 file 0))) (first_fault file (symbol_fields file (be32 file 12) (be16 file 8))))) (header_of file)) (sym read.sound)
+  refused_packets e r = by_second (header_of file) e _ _ _ read.sound (r ∙ ap (option_map (placed 13)) packets_same)
 
   module _ (packets : None ≡ option_map (placed 13) (first_fault file (packet_offsets file h.offsets h.packets))) where
     packets_sound : first_fault file (packet_offsets file (be32 file 4) (be32 file 0)) ≡ None
-    packets_sound = none_mapped _ (packets ∙ ap (option_map (placed 13)) packets_same)
+    packets_sound = sym packets_same ∙ none_mapped _ packets
 
     pub refused_symbols : (e : Returned) → Some e ≡ option_map (placed 13) (first_fault file (symbol_fields file h.names h.symbols)) → Err e ≡ file_verdict file
     unfolding fault
-    refused_symbols e r =
-        refused_by file e _ None (r ∙ ap (option_map (placed 13)) symbols_same)
-        ∙ ap (λ (o : Option ℕ). unless o (header_of file)) (or_right (first_fault file (symbol_fields file (be32 file 12) (be16 file 8))))
-        ∙ ap (λ (o : Option ℕ). unless (option_or o (first_fault file (symbol_fields file (be32 file 12) (be16 file 8)))) (header_of file)) (sym packets_sound)
-        ∙ ap (λ (o : Option ℕ). unless (option_or o (option_or (first_fault file (packet_offsets file (be32 file 4) (be32 file 0))) (first_fault file (symbol_fields file (be32 file 12) (be16 file 8))))) (header_of file)) (sym read.sound)
+    refused_symbols e r = by_third (header_of file) e _ _ _ read.sound packets_sound (r ∙ ap (option_map (placed 13)) symbols_same)
 
     pub all_checked : None ≡ option_map (placed 13) (first_fault file (symbol_fields file h.names h.symbols)) → Faultless file
-    all_checked symbols = record { header = read.sound; packets = packets_sound; symbols = none_mapped _ (symbols ∙ ap (option_map (placed 13)) symbols_same) }
+    all_checked symbols = record { header = read.sound; packets = packets_sound; symbols = sym symbols_same ∙ none_mapped _ symbols }
 
   pub opened : Faultless file → Ok h ≡ file_verdict file
   opened f = ap Ok read.is ∙ ap (λ (o : Option ℕ). unless o (header_of file)) (sym (no_fault file f))
@@ -84,41 +83,15 @@ readable_all file table (i ∷ is) h =
     let rest = readable_all file table is p.1 in
     ap (λ (o : Option (List ℕ)). then_readable o (readable file table is)) (cond-true _ _ _ p.0) ∙ ap (λ (l : List (List ℕ)). packet_from file (be32 file (table + 4 * i)) ∷ l) rest
 
-pub given_entries : (file : List ℕ) (h : FileHeader) → Read file h → Faultless file → readable file h.offsets (range_with_len 0 h.packets) ≡ map (λ i. packet_from file (be32 file (be32 file 4 + 4 * i))) (range_with_len 0 (be32 file 0))
-given_entries file h read f = ap (λ (g : FileHeader). readable file g.offsets (range_with_len 0 g.packets)) read.is ∙ readable_all file (be32 file 4) (range_with_len 0 (be32 file 0)) f.packets
+pub given_entries : (file : List ℕ) (h : FileHeader) → h ≡ header_of file → Faultless file → readable file h.offsets (range_with_len 0 h.packets) ≡ map (λ i. packet_from file (be32 file (be32 file 4 + 4 * i))) (range_with_len 0 (be32 file 0))
+given_entries file h is f = ap (λ (g : FileHeader). readable file g.offsets (range_with_len 0 g.packets)) is ∙ readable_all file (be32 file 4) (range_with_len 0 (be32 file 0)) f.packets
 
 -- the symbols of a well-formed file are all inside
-symbols_inside : (file : List ℕ) (n : ℕ) → n ≡ be16 file 8 → WellFormed file → cond (leb (be32 file 12 + 8 * n) (length file)) (symbols_of file (be32 file 12) n) [] ≡ symbols_of file (be32 file 12) n
-symbols_inside file zero is w = by (leb (be32 file 12 + 8 * 0) (length file))
-  where
-    by : (b : Bool) → cond {A = List (List ℕ)} b [] [] ≡ []
-    by true = refl
-    by false = refl
-symbols_inside file (suc n) is w =
-    let last = (w.symbols n (omega arith)).inside in
-    let all : be32 file 12 + 8 * suc n ≤ length file = omega arith in
-    cond-true _ _ _ (le-leb _ _ all)
+all_inside : (file : List ℕ) (n : ℕ) → n ≡ be16 file 8 → WellFormed file → min n ((length file - be32 file 12) / 8) ≡ n
+all_inside file zero is w = omega arith
+all_inside file (suc n) is w = let last = (w.symbols n (omega arith)).inside in omega arith
 
-pub given_symbols_lem : (file : List ℕ) (h : FileHeader) → Read file h → Faultless file → cond (leb (h.names + 8 * h.symbols) (length file)) (symbols_of file h.names h.symbols) [] ≡ symbols_of file (be32 file 12) (be16 file 8)
-given_symbols_lem file h read f =
-    ap (λ (g : FileHeader). cond (leb (g.names + 8 * g.symbols) (length file)) (symbols_of file g.names g.symbols) []) read.is
-    ∙ symbols_inside file (be16 file 8) refl (well_formed_lem file f)
-
--- runs of 8 bytes are the symbols of a table
-chunks_symbols : (file : List ℕ) (table i n m : ℕ) → n ≤ m → take n (first_chunks 8 m (drop (table + 8 * i) file)) ≡ map (symbol_at file table) (range_with_len i n)
-chunks_symbols file table i zero m h = refl
-chunks_symbols file table i (suc n) zero h = absurd (omega arith)
-chunks_symbols file table i (suc n) (suc m) h =
-    let e : table + 8 * i + 8 ≡ table + 8 * (i + 1) = omega arith in
-    let d : drop 8 (drop (table + 8 * i) file) ≡ drop (table + 8 * (i + 1)) file = drop-drop 8 (table + 8 * i) file ∙ ap (λ (k : ℕ). drop k file) e in
-    ap (λ (l : List ℕ). symbol_at file table i ∷ take n (first_chunks 8 m l)) d ∙ ap (λ (l : List (List ℕ)). symbol_at file table i ∷ l) (chunks_symbols file table (i + 1) n m (omega arith))
-
-pub symbols_given : (file : List ℕ) (table n : ℕ) (rest : List ℕ) (chunks : List (List ℕ)) → rest ≡ drop table file → chunks ≡ first_chunks 8 (length rest / 8) rest → table + 8 * n ≤ length file → take n chunks ≡ cond (leb (table + 8 * n) (length file)) (symbols_of file table n) []
-symbols_given file table n rest chunks er ec inside =
-    let long : length rest ≡ length file - table = ap length er ∙ length-drop table file in
-    let le : n ≤ length rest / 8 = omega arith in
-    let z : table + 8 * 0 ≡ table = omega arith in
-    ap (take n) ec
-    ∙ ap (λ (l : List ℕ). take n (first_chunks 8 (length rest / 8) l)) (er ∙ ap (λ (k : ℕ). drop k file) (sym z))
-    ∙ chunks_symbols file table 0 n (length rest / 8) le
-    ∙ sym (cond-true _ _ _ (le-leb _ _ inside))
+pub given_symbols_lem : (file : List ℕ) (h : FileHeader) → h ≡ header_of file → Faultless file → symbols_inside file h.names h.symbols ≡ symbols_of file (be32 file 12) (be16 file 8)
+given_symbols_lem file h is f =
+    ap (λ (g : FileHeader). symbols_inside file g.names g.symbols) is
+    ∙ ap (symbols_of file (be32 file 12)) (all_inside file (be16 file 8) refl (well_formed_lem file f))

@@ -1,6 +1,5 @@
 -- The packets and the symbols of a session file.
-use Rattle.std.specs.Prelude.{◌≡◌, ℕ, ◌+◌, ◌-◌, ◌*◌, cond, List, [], ◌∷◌, map, length, Some, None, Option, nat_le}
-use Rattle.std.specs.Borrow.{Bor}
+use Rattle.std.specs.Prelude.{ℕ, ◌+◌, ◌-◌, ◌*◌, cond, List, [], ◌∷◌, map, Some, None, Option}
 use Rattle.std.specs.List.{range_with_len}
 use Rattle.messages.specs.Wire.{be16, be32, part}
 use Rattle.sessionfile.specs.Files.{packet_offset, sound, symbols_of}
@@ -35,20 +34,13 @@ abbrev pub readable : List ℕ → (table : ℕ) → List ℕ → List (List ℕ
 readable file table [] = []
 readable file table (i ∷ is) = then_readable (pointed_at file (table + 4 * i)) (readable file table is)
 
--- what any value of the reader gives, and what is still to come of it
+-- what an opened file gives
 abbrev pub given : SessionFile → List (List ℕ)
-given f = readable f.bytes.now f.header.offsets (range_with_len 0 f.header.packets)
+given f = entries f.bytes.now
 
-abbrev pub given_symbols : SessionFile → List (List ℕ)
-given_symbols f = cond (nat_le (f.header.names + 8 * f.header.symbols) (length f.bytes.now)) (symbols_of f.bytes.now f.header.names f.header.symbols) []
-
+-- what is still to come of the packets
 abbrev pub entries_left : Entries → ℕ
 entries_left e = e.packets - e.next
 
 abbrev pub pending : Entries → List (List ℕ)
 pending e = readable e.bytes.now e.offsets (range_with_len e.next (entries_left e))
-
--- what a call of `next` takes of it
-abbrev pub Next : Entries → Option (Bor (List ℕ)) → Entries → Type 0
-Next before None after = pending before ≡ []
-Next before (Some packet) after = pending before ≡ packet.now ∷ pending after

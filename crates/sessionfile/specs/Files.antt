@@ -1,6 +1,6 @@
 -- The fields of a session file: where each stands, and whether it is good. Numbers are high byte first.
-use Rattle.std.specs.Prelude.{ℕ, ◌+◌, ◌*◌, Bool, true, false, cond, not, ◌&&◌, ◌||◌, List, [], ◌∷◌, map, length, is_some, Some, None, Ok, Err, Option, Result, nat_le}
-use Rattle.std.specs.List.{range_with_len}
+use Rattle.std.specs.Prelude.{ℕ, ◌+◌, ◌-◌, ◌*◌, ◌/◌, min, Bool, true, cond, not, ◌&&◌, List, [], ◌∷◌, map, length, take, is_some, Some, None, Ok, Err, Option, Result, nat_le, slice_index_or}
+use Rattle.std.specs.List.{range_with_len, list_any}
 use Rattle.std.specs.Option.{unwrap_or, option_or}
 use Rattle.std.specs.Str.{bytes_eq}
 use Rattle.codes.specs.Codes.{coded, kinds, kind_code}
@@ -52,8 +52,7 @@ abbrev pub symbols_of : List ℕ → (table count : ℕ) → List (List ℕ)
 symbols_of file table count = map (symbol_at file table) (range_with_len 0 count)
 
 abbrev pub is_in : List ℕ → List (List ℕ) → Bool
-is_in symbol [] = false
-is_in symbol (s ∷ ss) = bytes_eq s symbol || is_in symbol ss
+is_in symbol symbols = list_any (λ s. bytes_eq s symbol) symbols
 
 -- the field of a symbol: well formed, and none of those before it
 abbrev pub symbol_field : List ℕ → (table i : ℕ) → Field
@@ -84,3 +83,11 @@ unless (Some place) value = Err (placed 13 place)
 
 abbrev pub file_verdict : List ℕ → Result FileHeader Returned
 file_verdict file = unless (fault file) (header_of file)
+
+-- the symbols of a table that are wholly inside
+abbrev pub symbols_inside : List ℕ → (table count : ℕ) → List (List ℕ)
+symbols_inside file table count = symbols_of file table (min count ((length file - table) / 8))
+
+-- the same of any symbols: one that is well formed, and none of those before it
+abbrev pub good_symbol : List (List ℕ) → ℕ → Bool
+good_symbol symbols i = well_formed (slice_index_or symbols i []) && not (is_in (slice_index_or symbols i []) (take i symbols))

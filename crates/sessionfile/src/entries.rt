@@ -1,50 +1,49 @@
 // The packets of a session file, one after the other.
-ghost use Rattle.std.specs.Prelude.{◌≡◌, ◌<◌, true, is_some};
+ghost use Rattle.std.specs.Prelude.{◌≡◌};
+ghost use Rattle.std.specs.List.{range_with_len};
 ghost use Rattle.std.specs.Option.{option_map};
-ghost use Rattle.sessionfile.specs.Entries.{pointed_at, entries_left, Next};
-ghost use Rattle.std.specs.Iterator.{at_most};
+ghost use Rattle.std.specs.Iterator.{YieldsFirstRef, item_count};
+ghost use Rattle.sessionfile.specs.Entries.{pointed_at, readable, pending};
 
-use crate::header::{read_u16, read_u32};
+use crate::array::array_at;
+use crate::header::FileHeader;
 use feed::packet::LONGEST_PACKET;
 use messages::numbers::HEADER_SIZE;
 
+// The length of a packet offset.
+pub(crate) const OFFSET_SIZE: usize = 4;
+
 // The packet that the offset at a place points at, where both are wholly inside and its length can be one.
-pub(crate) fn packet_of(bytes: &[u8], place: usize) -> Option<&[u8]>
+fn packet_of(bytes: &[u8], place: usize) -> Option<&[u8]>
     ensures { option_map (λ x. x.now) result ≡ pointed_at bytes.now place }
 {
-    let at = read_u32(bytes, place)? as usize;
-    let length = read_u16(bytes, at)? as usize;
-    if length < HEADER_SIZE || length > LONGEST_PACKET || length > bytes.len() - at {
+    let at = u32::from_be_bytes(*array_at(bytes, place)?) as usize;
+    let length = u16::from_be_bytes(*array_at(bytes, at)?) as usize;
+    if length < HEADER_SIZE || length > LONGEST_PACKET {
         return None;
     }
-    Some(&bytes[at..at + length])
+    bytes.get(at..at + length)
 }
 
 // What is left of a file's packets.
 #[derive(Drop)]
 pub struct Entries<'a> {
-    pub(crate) bytes: &'a [u8],
-    pub(crate) offsets: u32,
-    pub(crate) next: u32,
-    pub(crate) packets: u32,
+    bytes: &'a [u8],
+    offsets: u32,
+    next: u32,
+    packets: u32,
 }
 
 impl<'a> Entries<'a> {
-    fn advance(&mut self) -> Option<&'a [u8]>
-        ensures next { Next self.old result self.new }
-        ensures shrinks { is_some result ≡ true → entries_left self.new < entries_left self.old }
+    // The packets of a file, by its header.
+    pub(crate) fn new(bytes: &'a [u8], header: FileHeader) -> Entries<'a>
+        ensures { pending result ≡ readable bytes.now header.offsets (range_with_len 0 header.packets) }
     {
-        let bytes = self.bytes;
-        let next = self.next;
-        if next >= self.packets {
-            return None;
-        }
-        match packet_of(bytes, self.offsets as usize + 4 * next as usize) {
-            Some(packet) => {
-                self.next = next + 1;
-                Some(packet)
-            }
-            None => None,
+        Entries {
+            bytes,
+            offsets: header.offsets,
+            next: 0,
+            packets: header.packets,
         }
     }
 }
@@ -52,13 +51,18 @@ impl<'a> Entries<'a> {
 impl<'a> Iterator for Entries<'a> {
     type Item = &'a [u8];
 
-    ghost can_next = { λ _. Unit {0} };
+    ghost next_gives = { YieldsFirstRef pending };
 
-    ghost next_gives = { λ s r t. Next s r t };
+    ghost remaining = { item_count pending };
 
-    ghost remaining = { λ s. at_most (entries_left s) };
-
+    // An index of its own: a range would pass over an offset that points at no packet, and nothing may come after None.
     fn next(&mut self) -> Option<&'a [u8]> {
-        self.advance()
+        if self.next >= self.packets {
+            return None;
+        }
+        let place = self.offsets as usize + OFFSET_SIZE * self.next as usize;
+        let packet = packet_of(self.bytes, place)?;
+        self.next += 1;
+        Some(packet)
     }
 }

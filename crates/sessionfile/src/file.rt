@@ -1,45 +1,45 @@
 // A session file over shared bytes.
-ghost use Rattle.std.specs.Prelude.{◌≡◌, ◌+◌, ◌*◌, ◌≤◌, true, ◌↔◌, length, IfSome, is_ok, IfOk, if◌then◌else◌, Some, None, nat_le};
+ghost use Rattle.std.specs.Prelude.{◌≡◌, ℕ, ◌<◌, ◌≤◌, true, false, ◌↔◌, length, IfSome, is_ok, IfOk, None};
 ghost use Rattle.std.specs.Option.{option_map};
-ghost use Rattle.std.specs.Str.{bytes_eq};
 ghost use Rattle.codes.specs.Refusals.{answered, refusal_of, placed};
-ghost use Rattle.messages.specs.Wire.{byte, part};
-ghost use Rattle.replay.specs.Stores.{holding};
-ghost use Rattle.sessionfile.specs.Entries.{entries, symbols, given, given_symbols, pending};
-ghost use Rattle.sessionfile.specs.Held.{FileHolds};
+ghost use Rattle.messages.specs.Wire.{byte};
 ghost use Rattle.sessionfile.specs.Layout.{WellFormed};
-ghost use Rattle.sessionfile.specs.Files.{packet_offset, packet_offsets, symbols_of, is_in, symbol_field, symbol_fields, sound, first_fault, file_verdict};
+ghost use Rattle.sessionfile.specs.Files.{header_of, packet_offsets, symbol_fields, first_fault, fault, file_verdict, symbols_inside, good_symbol};
 
-use crate::entries::{Entries, packet_of};
+use crate::entries::{Entries, OFFSET_SIZE};
 use crate::header::FileHeader;
 use codes::refusal::Refusal;
 use messages::symbol::{Symbol, is_well_formed};
 use replay::store::is_packet;
 
 // The length of a symbol's field.
-const SYMBOL: usize = 8;
+const SYMBOL_SIZE: usize = 8;
 
-// Every value of this reads safely; that of an opened file has a header and entries that were checked.
+// A file that was opened: its header was read, and no field of it is at fault.
 #[derive(Clone, Copy)]
 pub struct SessionFile<'a> {
     bytes: &'a [u8],
     header: FileHeader,
+    ghost read: { header ≡ header_of bytes.now },
+    ghost sound: { fault bytes.now ≡ None },
 }
 
 impl<'a> SessionFile<'a> {
+    ghost use Rattle.replay.specs.Stores.{holding};
+    ghost use Rattle.sessionfile.specs.Entries.{entries, symbols, pending};
+    ghost use Rattle.sessionfile.specs.Held.{FileHolds};
+
     // Checks the whole file: refusal 13 at the first field at fault, of the header, then of the packet offsets, then of
     // the symbols.
     pub fn open(bytes: &'a [u8]) -> Result<SessionFile<'a>, Refusal>
         ensures verdict { answered (λ f. f.header) result ≡ file_verdict bytes.now }
         ensures law { (is_ok result ≡ true) ↔ WellFormed bytes.now }
         ensures bytes { IfOk result (λ f. f.bytes.now ≡ bytes.now) }
-        ensures entries { IfOk result (λ f. given f ≡ entries bytes.now) }
-        ensures symbols { IfOk result (λ f. given_symbols f ≡ symbols bytes.now) }
         ensures holds { IfOk result (λ f. FileHolds f (holding (byte bytes.now 10) (entries bytes.now))) }
     {
         let header = FileHeader::read(bytes)?;
-        check_packets(bytes, header.offsets, header.packets)?;
-        check_symbols(bytes, header.names, header.symbols)?;
+        check_packets(bytes, header)?;
+        check_symbols(bytes, header)?;
         Ok(SessionFile { bytes, header })
     }
 
@@ -52,113 +52,74 @@ impl<'a> SessionFile<'a> {
 
     // The packets, in the order of their offsets.
     pub fn entries(self) -> Entries<'a>
-        ensures { pending result ≡ given self.entry }
+        ensures { pending result ≡ entries self.entry.bytes.now }
     {
-        let SessionFile { bytes, header } = self;
-        Entries {
-            bytes,
-            offsets: header.offsets,
-            next: 0,
-            packets: header.packets,
-        }
+        Entries::new(self.bytes, self.header)
     }
 
     // The symbols, in the order of the file.
     pub fn symbols(self) -> &'a [Symbol]
-        ensures { result.now ≡ given_symbols self.entry }
+        ensures { result.now ≡ symbols self.entry.bytes.now }
     {
-        let SessionFile { bytes, header } = self;
-        let start = header.names as usize;
-        let count = header.symbols as usize;
-        if bytes.len() < start + SYMBOL * count {
-            return &[];
-        }
-        let (symbols, _) = bytes[start..].as_chunks::<SYMBOL>();
-        &symbols[..count]
+        symbols_inside(self.bytes, self.header)
     }
 
     // The first packet of type M with the file's subscription and this number, as a part of the file.
     pub fn packet(self, number: u32) -> Option<&'a [u8]>
-        ensures finds { option_map (λ x. x.now) result ≡ holding self.entry.header.subscription (given self.entry) number }
+        ensures finds { option_map (λ x. x.now) result ≡ holding self.entry.header.subscription (entries self.entry.bytes.now) number }
         ensures short { IfSome result (λ p. length p.now ≤ 8192) }
     {
         let subscription = self.header.subscription;
-        for packet in self.entries() {
-            if is_packet(packet, subscription, number) {
-                return Some(packet);
-            }
-        }
-        None
+        self.entries()
+            .find(|packet| is_packet(packet, subscription, number))
     }
 }
+
+// The checks take a file's bytes and header: a SessionFile, which has both, is made only once they have passed.
 
 // Whether each packet offset points at a packet, else refusal 13 at the first that does not.
-fn check_packets(bytes: &[u8], table: u32, count: u32) -> Result<(), Refusal>
-    ensures { refusal_of result ≡ option_map (placed 13) (first_fault bytes.now (packet_offsets bytes.now table count)) }
+fn check_packets(bytes: &[u8], header: FileHeader) -> Result<(), Refusal>
+    ensures { refusal_of result ≡ option_map (placed 13) (first_fault bytes.now (packet_offsets bytes.now header.offsets header.packets)) }
 {
-    for i in 0..count {
-        let place = table as usize + 4 * i as usize;
-        if !points_at_packet(bytes, place) {
-            return Err(Refusal::BrokenFile(place));
-        }
+    let good = Entries::new(bytes, header).count();
+    if good < header.packets as usize {
+        return Err(Refusal::BrokenFile(header.offsets as usize + OFFSET_SIZE * good));
     }
     Ok(())
 }
 
-fn points_at_packet(bytes: &[u8], place: usize) -> bool
-    ensures { result ≡ sound bytes.now (packet_offset bytes.now place) }
+// Whether the symbols are inside, well formed and distinct, else refusal 13 at the first that is not.
+fn check_symbols(bytes: &[u8], header: FileHeader) -> Result<(), Refusal>
+    ensures { refusal_of result ≡ option_map (placed 13) (first_fault bytes.now (symbol_fields bytes.now header.names header.symbols)) }
 {
-    packet_of(bytes, place).is_some()
-}
-
-// Whether the symbols are well formed and distinct, else refusal 13 at the first that is not.
-fn check_symbols(bytes: &[u8], table: u32, count: u16) -> Result<(), Refusal>
-    ensures { refusal_of result ≡ option_map (placed 13) (first_fault bytes.now (symbol_fields bytes.now table count)) }
-{
-    for i in 0..count {
-        if !is_new_symbol(bytes, table, i) {
-            return Err(Refusal::BrokenFile(table as usize + SYMBOL * i as usize));
-        }
+    let good = good_symbols(symbols_inside(bytes, header));
+    if good < header.symbols as usize {
+        return Err(Refusal::BrokenFile(header.names as usize + SYMBOL_SIZE * good));
     }
     Ok(())
 }
 
-// Whether the symbol of an index is there, well formed, and none of those before it.
-fn is_new_symbol(bytes: &[u8], table: u32, i: u16) -> bool
-    ensures { result ≡ sound bytes.now (symbol_field bytes.now table i) }
+// The symbols that are wholly inside the file.
+fn symbols_inside(bytes: &[u8], header: FileHeader) -> &[Symbol]
+    ensures { result.now ≡ symbols_inside bytes.now header.names header.symbols }
 {
-    match symbol_of(bytes, table as usize + SYMBOL * i as usize) {
-        Some(symbol) => is_well_formed(symbol) && !is_among(bytes, table, i, symbol),
-        None => false,
-    }
+    let (symbols, _) = bytes
+        .get(header.names as usize..)
+        .unwrap_or(&[])
+        .as_chunks::<SYMBOL_SIZE>();
+    let inside = symbols.len().min(header.symbols as usize);
+    &symbols[..inside]
 }
 
-// The symbol at a place, where it is wholly inside.
-fn symbol_of(bytes: &[u8], place: usize) -> Option<&Symbol>
-    ensures { option_map (λ x. x.now) result ≡ (if nat_le (place + 8) (length bytes.now) then Some (part bytes.now place 8) else None) }
+// How many symbols come before the first that is malformed or has come before.
+fn good_symbols(symbols: &[Symbol]) -> usize
+    ensures good { (i : ℕ) → i < result → good_symbol symbols.now i ≡ true }
+    ensures next { result < length symbols.now → good_symbol symbols.now result ≡ false }
+    ensures bound { result ≤ length symbols.now }
 {
-    if place > bytes.len() {
-        return None;
-    }
-    bytes[place..].first_chunk::<SYMBOL>()
-}
-
-// Whether a symbol is one of the first so many of a table.
-fn is_among(bytes: &[u8], table: u32, count: u16, symbol: &Symbol) -> bool
-    requires { table + 8 * count ≤ length bytes.now }
-    ensures { result ≡ is_in symbol.now (symbols_of bytes.now table count) }
-{
-    for i in 0..count {
-        let place = table as usize + SYMBOL * i as usize;
-        if is_same(&bytes[place..place + SYMBOL], symbol) {
-            return true;
-        }
-    }
-    false
-}
-
-fn is_same(a: &[u8], b: &[u8]) -> bool
-    ensures { result ≡ bytes_eq a.now b.now }
-{
-    a == b
+    symbols
+        .iter()
+        .enumerate()
+        .position(|(i, symbol)| !is_well_formed(symbol) || symbols[..i].contains(symbol))
+        .unwrap_or(symbols.len())
 }

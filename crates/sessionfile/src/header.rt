@@ -1,9 +1,10 @@
 // The header of a session file.
-ghost use Rattle.std.specs.Prelude.{◌≡◌, ◌+◌, length, if◌then◌else◌, Some, None, nat_le};
-ghost use Rattle.codes.specs.Refusals.{answered};
-ghost use Rattle.messages.specs.Wire.{be16, be32};
+ghost use Rattle.std.specs.Prelude.{◌≡◌, ◌+◌, length, if◌then◌else◌, Ok, Err, nat_le};
+ghost use Rattle.codes.specs.Refusals.{answered, placed};
+ghost use Rattle.messages.specs.Wire.{part};
 ghost use Rattle.sessionfile.specs.Files.{header_fields, first_fault, unless, header_of};
 
+use crate::array::array_at;
 use codes::kind::KindCode;
 use codes::refusal::Refusal;
 
@@ -29,59 +30,33 @@ impl FileHeader {
     pub fn read(bytes: &[u8]) -> Result<FileHeader, Refusal>
         ensures { answered (λ h. h) result ≡ unless (first_fault bytes.now (header_fields bytes.now)) (header_of bytes.now) }
     {
-        let Some(packets) = read_u32(bytes, 0) else {
-            return Err(Refusal::BrokenFile(0));
-        };
+        let packets = u32::from_be_bytes(field_at(bytes, 0)?);
         if packets > MOST_PACKETS {
             return Err(Refusal::BrokenFile(0));
         }
-        let Some(offsets) = read_u32(bytes, 4) else {
-            return Err(Refusal::BrokenFile(4));
-        };
-        let Some(symbols) = read_u16(bytes, 8) else {
-            return Err(Refusal::BrokenFile(8));
-        };
+        let offsets = u32::from_be_bytes(field_at(bytes, 4)?);
+        let symbols = u16::from_be_bytes(field_at(bytes, 8)?);
         if symbols > MOST_SYMBOLS {
             return Err(Refusal::BrokenFile(8));
         }
-        if bytes.len() < 11 {
-            return Err(Refusal::BrokenFile(10));
-        }
-        if bytes.len() < 12 {
-            return Err(Refusal::BrokenFile(11));
-        }
-        let Some(kind) = KindCode::from_code(bytes[11]) else {
-            return Err(Refusal::BrokenFile(11));
-        };
-        let Some(names) = read_u32(bytes, 12) else {
-            return Err(Refusal::BrokenFile(12));
-        };
+        let [subscription] = field_at::<1>(bytes, 10)?;
+        let [code] = field_at::<1>(bytes, 11)?;
+        let kind = KindCode::from_code(code).ok_or(Refusal::BrokenFile(11))?;
+        let names = u32::from_be_bytes(field_at(bytes, 12)?);
         Ok(FileHeader {
             packets,
             offsets,
             symbols,
-            subscription: bytes[10],
+            subscription,
             kind,
             names,
         })
     }
 }
 
-// The number at an offset, where it is wholly inside.
-pub(crate) fn read_u16(bytes: &[u8], at: usize) -> Option<u16>
-    ensures { result ≡ (if nat_le (at + 2) (length bytes.now) then Some (be16 bytes.now at) else None) }
+// The bytes of the field at an offset, or refusal 13 there.
+fn field_at<const N: usize>(bytes: &[u8], at: usize) -> Result<[u8; N], Refusal>
+    ensures { answered (λ x. x) result ≡ (if nat_le (at + N) (length bytes.now) then Ok (part bytes.now at N) else Err (placed 13 at)) }
 {
-    if at > bytes.len() || bytes.len() - at < 2 {
-        return None;
-    }
-    Some(u16::from_be_bytes([bytes[at], bytes[at + 1]]))
-}
-
-pub(crate) fn read_u32(bytes: &[u8], at: usize) -> Option<u32>
-    ensures { result ≡ (if nat_le (at + 4) (length bytes.now) then Some (be32 bytes.now at) else None) }
-{
-    if at > bytes.len() || bytes.len() - at < 4 {
-        return None;
-    }
-    Some(u32::from_be_bytes([bytes[at], bytes[at + 1], bytes[at + 2], bytes[at + 3]]))
+    array_at(bytes, at).copied().ok_or(Refusal::BrokenFile(at))
 }

@@ -1,18 +1,25 @@
-use Rattle.std.proofs.Common.{◌+◌, ◌*◌, sym, refl, ap, ◌∙◌}
+use Rattle.std.proofs.Common.{◌≡◌, length, sym, inl, ap, arith}
+use Rattle.std.proofs.lemmas.Iterator.Consumers.{YieldsList-from_first, count_from_yields_List}
+use Rattle.std.specs.List.{range_with_len}
 use Rattle.std.specs.Option.{option_map}
 use Rattle.codes.specs.Refusals.{placed}
-use Rattle.sessionfile.specs.Files.{packet_offset}
-use Rattle.sessionfile.proofs.Steps.{fault_here, fault_next}
+use Rattle.sessionfile.specs.Entries.{readable, pending}
+use Rattle.sessionfile.proofs.Tables.{length-readable, packets_at_fault, packets_sound}
 use Rattle.sessionfile.proofs.file.check_packets.Goals as goal
 
-pub returns-then-not-points_at_packet : goal.returns-then-not-points_at_packet
-returns-then-not-points_at_packet c =
-    let file = c.args.bytes.now in
-    let table = c.args.table in
-    ap (option_map (placed 13)) (sym (fault_here file (λ i. packet_offset file (table + 4 * i)) c.loop-i.i c.args.count c.loop-i-test.true _ _ _ refl c.if-not-points_at_packet.ensures) ∙ c.loop-i.invariant)
+pub count-good-requires-clause-fits : goal.count-good-requires-clause-fits
+count-good-requires-clause-fits c = inl (omega (arith, ap length c.new.ensures, length-readable c.args.bytes.now c.args.header.offsets 0 c.args.header.packets))
 
-pub loop-i-preserved : goal.loop-i-preserved
-loop-i-preserved c =
-    let file = c.args.bytes.now in
-    let table = c.args.table in
-    sym (fault_next file (λ i. packet_offset file (table + 4 * i)) c.loop-i.i c.args.count c.loop-i-test.true _ _ _ refl c.if-not-points_at_packet.ensures) ∙ c.loop-i.invariant
+pub returns-then-good-header : goal.returns-then-good-header
+returns-then-good-header c =
+    let h = c.args.header in
+    let all = readable c.args.bytes.now h.offsets (range_with_len 0 h.packets) in
+    let counted : c.count-good.result ≡ length all = count_from_yields_List c.new.result c.count-good.result c.count-good.ensures.ran (YieldsList-from_first (λ x. x.now) pending all c.new.ensures) in
+    sym (ap (option_map (placed 13)) (packets_at_fault c.args.bytes.now h.offsets h.packets c.count-good.result counted c.if-good-header.true))
+
+pub returns : goal.returns
+returns c =
+    let h = c.args.header in
+    let all = readable c.args.bytes.now h.offsets (range_with_len 0 h.packets) in
+    let counted : c.count-good.result ≡ length all = count_from_yields_List c.new.result c.count-good.result c.count-good.ensures.ran (YieldsList-from_first (λ x. x.now) pending all c.new.ensures) in
+    sym (ap (option_map (placed 13)) (packets_sound c.args.bytes.now h.offsets h.packets c.count-good.result counted c.if-good-header.false))

@@ -1,16 +1,17 @@
-use Rattle.std.proofs.Common.{sym, refl, ap, ◌∙◌}
+use Rattle.std.proofs.Common.{sym, ap}
 use Rattle.std.specs.Option.{option_map}
 use Rattle.codes.specs.Refusals.{placed}
-use Rattle.sessionfile.specs.Files.{symbol_field}
-use Rattle.sessionfile.proofs.Steps.{fault_here, fault_next}
+use Rattle.sessionfile.proofs.Tables.{symbols_at_fault, symbols_sound}
 use Rattle.sessionfile.proofs.file.check_symbols.Goals as goal
 
-pub returns-then-not-is_new_symbol : goal.returns-then-not-is_new_symbol
-returns-then-not-is_new_symbol c =
-    let file = c.args.bytes.now in
-    ap (option_map (placed 13)) (sym (fault_here file (symbol_field file c.args.table) c.loop-i.i c.args.count c.loop-i-test.true _ _ _ refl c.if-not-is_new_symbol.ensures) ∙ c.loop-i.invariant)
+pub returns-then-good-header : goal.returns-then-good-header
+returns-then-good-header c =
+    let h = c.args.header in
+    let good = c.good_symbols-good in
+    sym (ap (option_map (placed 13)) (symbols_at_fault c.args.bytes.now h.names h.symbols c.symbols_inside.result.now c.symbols_inside.ensures good.result good.ensures.good good.ensures.bound good.ensures.next c.if-good-header.true))
 
-pub loop-i-preserved : goal.loop-i-preserved
-loop-i-preserved c =
-    let file = c.args.bytes.now in
-    sym (fault_next file (symbol_field file c.args.table) c.loop-i.i c.args.count c.loop-i-test.true _ _ _ refl c.if-not-is_new_symbol.ensures) ∙ c.loop-i.invariant
+pub returns : goal.returns
+returns c =
+    let h = c.args.header in
+    let good = c.good_symbols-good in
+    sym (ap (option_map (placed 13)) (symbols_sound c.args.bytes.now h.names h.symbols c.symbols_inside.result.now c.symbols_inside.ensures good.result good.ensures.good good.ensures.bound c.if-good-header.false))
