@@ -43,6 +43,7 @@ impl PriceLevel {
 #[derive(Clone, Copy)]
 pub struct FiveLevels {
     pub levels: [PriceLevel; 5],
+    pub ghost five: { length levels ≡ 5 },
 }
 
 // The two sides of a book.
@@ -57,13 +58,7 @@ fn place(level: Level) -> usize
     ensures value { level_number level ≡ suc result }
     ensures bound { result < 5 }
 {
-    match level {
-        Level::First => 0,
-        Level::Second => 1,
-        Level::Third => 2,
-        Level::Fourth => 3,
-        Level::Fifth => 4,
-    }
+    level as usize
 }
 
 // Event `C` leaves nothing of a book, whatever it was; no other message settles one.
@@ -89,17 +84,9 @@ impl FiveLevels {
         }
     }
 
-    // Says to the check that a side has five levels, which it knows where one is read.
-    pub(crate) fn has_five(&self)
-        ensures { length self.now.levels ≡ 5 }
-    {
-        let _ = self.levels[0];
-    }
-
     // A level goes: those behind it move up, and the fifth place is free.
     fn remove(&mut self, level: Level)
-        ensures four { take 4 self.new.levels ≡ removed (level_number level) self.old.levels }
-        ensures five { length self.old.levels ≡ 5 }
+        ensures { take 4 self.new.levels ≡ removed (level_number level) self.old.levels }
     {
         let place = place(level);
         self.levels[place..5].rotate_left(1);

@@ -15,7 +15,6 @@ impl Book<FiveLevels> {
         ensures { depth_shown self.new ≡ on_side 10 quote.side (side_after quote) (depth_shown self.old) }
     {
         let new = PriceLevel::from_quote(quote);
-        self.bid.has_five();
         match quote.side {
             Side::Bid => self.bid.change(quote.delete, quote.insert, new),
             Side::Offer => self.offer.change(quote.delete, quote.insert, new),
@@ -26,7 +25,6 @@ impl Book<FiveLevels> {
     fn event(&mut self, form: EventForm)
         ensures { depth_shown self.new ≡ cleared 10 form (depth_shown self.old) }
     {
-        self.bid.has_five();
         self.clear(form, FiveLevels::empty());
     }
 }

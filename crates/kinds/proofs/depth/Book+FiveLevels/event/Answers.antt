@@ -7,4 +7,4 @@ use Rattle.kinds.proofs.depth.Book+FiveLevels.event.Goals as goal
 pub returns : goal.returns
 returns c =
     let book = c.args.self.now in
-    ap depth_shown c.clear.ensures ∙ cleared_shown (λ side. numbers side.levels) 10 c.empty.result (ap numbers c.empty.ensures) c.args.form book (ten book.bid.levels c.has_five.ensures)
+    ap depth_shown c.clear.ensures ∙ cleared_shown (λ side. numbers side.levels) 10 c.empty.result (ap numbers c.empty.ensures) c.args.form book (ten book.bid.levels book.bid.five)
