@@ -25,11 +25,7 @@ empties_bid f = code_of f == 66 || code_of f == 67
 abbrev pub empties_offer : EventForm → Bool
 empties_offer f = code_of f == 65 || code_of f == 67
 
--- a book after an event
-abbrev pub cleared_book : {S : Type 0} → S → EventForm → Book S → Book S
-cleared_book empty f b = record { bid = cond (empties_bid f) empty b.bid; offer = cond (empties_offer f) empty b.offer }
-
--- the same of the numbers, so many for each side
+-- the numbers of a book after an event, so many for each side
 abbrev pub cleared : ℕ → EventForm → List ℕ → List ℕ
 cleared width f ns =
     cond (empties_bid f) (replicate width 0) (take width ns) ++ cond (empties_offer f) (replicate width 0) (drop width ns)

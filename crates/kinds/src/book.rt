@@ -1,8 +1,8 @@
-// A book of two sides, which is a kind of record whatever it keeps of a side.
+// A book of two sides, and the kinds whose record it is.
 ghost use Rattle.std.specs.Prelude.{◌≡◌, suc, ◌<◌, length, take, replicate};
 ghost use Rattle.codes.specs.Codes.{level_number};
 ghost use Rattle.kinds.specs.Levels.{removed, inserted, moved, Change, no_level, new_level};
-ghost use Rattle.kinds.specs.Books.{shown, cleared_book, after_quote, book_meaning};
+ghost use Rattle.kinds.specs.Books.{shown, cleared, after_quote, book_meaning};
 
 use crate::kind::Kind;
 use crate::side::BookSide;
@@ -10,6 +10,7 @@ use codes::event::SeriesEvent;
 use codes::quote::{Level, Side};
 use messages::fields::{EventForm, QuoteFields};
 use messages::message::Message;
+use std::marker::PhantomData;
 
 // A price in ten-thousandths, and the contracts at it. The default is no level.
 #[derive(Clone, Copy, Debug, Default, PartialEq, Eq)]
@@ -97,24 +98,24 @@ impl<S: BookSide> Book<S> {
     }
 
     // `A` empties the offer, `B` the bid, `C` both; every other event leaves the book.
-    fn clear(&mut self, form: EventForm, empty: S)
-        ensures { self.new ≡ cleared_book empty form self.old }
+    fn clear(&mut self, form: EventForm)
+        ensures { shown S.shows self.new ≡ cleared S.width form (shown S.shows self.old) }
     {
         if let EventForm::Numbered { code, .. } = form {
             match code {
-                SeriesEvent::ClearOffer => self.offer = empty,
-                SeriesEvent::ClearBid => self.bid = empty,
-                SeriesEvent::ClearSeries => {
-                    self.bid = empty;
-                    self.offer = empty;
-                }
+                SeriesEvent::ClearOffer => self.offer = S::default(),
+                SeriesEvent::ClearBid => self.bid = S::default(),
+                SeriesEvent::ClearSeries => *self = Book::default(),
                 _ => {}
             }
         }
     }
 }
 
-impl<S: BookSide> Kind for Book<S> {
+// The kind whose record is a book of two such sides.
+pub struct BookOf<S>(PhantomData<S>);
+
+impl<S: BookSide> Kind for BookOf<S> {
     type Record = Book<S>;
 
     ghost meaning = { book_meaning S.width S.takes S.after };
@@ -150,7 +151,7 @@ impl<S: BookSide> Kind for Book<S> {
     fn step(held: &mut Book<S>, message: &Message) {
         match message {
             Message::Quote(quote) => held.quote(quote.fields()),
-            Message::Event(event) => held.clear(event.fields().form, S::default()),
+            Message::Event(event) => held.clear(event.fields().form),
             Message::Imbalance(_) => {}
         }
     }

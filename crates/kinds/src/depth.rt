@@ -3,12 +3,12 @@ ghost use Rattle.std.proofs.Common.{ap};
 ghost use Rattle.kinds.specs.Levels.{numbers, ten};
 ghost use Rattle.kinds.specs.Depth.{every, side_after};
 
-use crate::book::{Book, FiveLevels};
+use crate::book::{BookOf, FiveLevels};
 use crate::side::BookSide;
 use messages::fields::QuoteFields;
 
 // The kind.
-pub type Depth = Book<FiveLevels>;
+pub type Depth = BookOf<FiveLevels>;
 
 impl BookSide for FiveLevels {
     ghost width = { 10 };

@@ -26,6 +26,7 @@ pub trait BookSide: Copy + Default {
     fn quote(&mut self, quote: QuoteFields)
         ensures { shows self.new ≡ after quote (shows self.old) };
 
+    // The laws: every side shows so many numbers, and a default one zeros.
     ghost fits: { (side : Self) → length (shows side) ≡ width };
 
     ghost empty: { (side : Self) → Self.is_default side → shows side ≡ replicate width 0 };

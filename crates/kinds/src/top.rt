@@ -4,13 +4,13 @@ ghost use Rattle.std.proofs.Common.{ap₂};
 ghost use Rattle.kinds.specs.Levels.{level_shown};
 ghost use Rattle.kinds.specs.Top.{of_top, best_after};
 
-use crate::book::{Book, PriceLevel};
+use crate::book::{BookOf, PriceLevel};
 use crate::side::BookSide;
 use codes::quote::Level;
 use messages::fields::QuoteFields;
 
 // The kind.
-pub type Top = Book<PriceLevel>;
+pub type Top = BookOf<PriceLevel>;
 
 impl BookSide for PriceLevel {
     ghost width = { 2 };
