@@ -1,20 +1,21 @@
 -- What a change means for each level of a side.
 use Rattle.std.proofs.Common.{◌≡◌, ℕ, zero, suc, ◌+◌, ◌<◌, ◌≤◌, false, eqb, List, [], ◌∷◌, length, take, Some, sym, refl, ap, ◌∙◌, subst, ⊎_elim, arith}
+use Rattle.std.specs.List.{insert, remove, slice_get}
 use Rattle.std.proofs.lemmas.Bool.{cases_lt, eqb-false}
 use Rattle.std.proofs.lemmas.List.Edits.{length-remove, length-insert}
 use Rattle.codes.specs.Codes.{level_number}
 use Rattle.codes.specs.declared.quote.Level.{Level}
 use Rattle.codes.specs.declared.quote.Level.TheVariants as level
-use Rattle.kinds.specs.Levels.{removed, inserted, moved, nth, level as level_at, Change}
+use Rattle.kinds.specs.Levels.{removed, inserted, moved, level as level_at, Change}
 
 module _ {X : Type 0} where
-  removed_ahead : (d k : ℕ) (xs : List X) → k < d → nth k (removed (suc d) xs) ≡ nth k xs
+  removed_ahead : (d k : ℕ) (xs : List X) → k < d → slice_get (remove xs d) k ≡ slice_get xs k
   removed_ahead zero k xs h = absurd (omega arith)
   removed_ahead (suc d) k [] h = refl
   removed_ahead (suc d) zero (x ∷ xs) h = refl
   removed_ahead (suc d) (suc k) (x ∷ xs) h = removed_ahead d k xs (omega arith)
 
-  removed_behind : (d k : ℕ) (xs : List X) → d ≤ k → nth k (removed (suc d) xs) ≡ nth (suc k) xs
+  removed_behind : (d k : ℕ) (xs : List X) → d ≤ k → slice_get (remove xs d) k ≡ slice_get xs (suc k)
   removed_behind zero k [] h = refl
   removed_behind zero k (x ∷ xs) h = refl
   removed_behind (suc d) zero xs h = absurd (omega arith)
@@ -22,18 +23,18 @@ module _ {X : Type 0} where
   removed_behind (suc d) (suc k) (x ∷ xs) h = removed_behind d k xs (omega arith)
 
   module _ (x : X) where
-    inserted_ahead : (i k : ℕ) (xs : List X) → k < i → i ≤ length xs → nth k (inserted (suc i) x xs) ≡ nth k xs
+    inserted_ahead : (i k : ℕ) (xs : List X) → k < i → i ≤ length xs → slice_get (insert xs i x) k ≡ slice_get xs k
     inserted_ahead zero k xs h l = absurd (omega arith)
     inserted_ahead (suc i) k [] h l = absurd (omega arith)
     inserted_ahead (suc i) zero (y ∷ ys) h l = refl
     inserted_ahead (suc i) (suc k) (y ∷ ys) h l = inserted_ahead i k ys (omega arith) (omega arith)
 
-    inserted_at : (i : ℕ) (xs : List X) → i ≤ length xs → nth i (inserted (suc i) x xs) ≡ Some x
+    inserted_at : (i : ℕ) (xs : List X) → i ≤ length xs → slice_get (insert xs i x) i ≡ Some x
     inserted_at zero xs l = refl
     inserted_at (suc i) [] l = absurd (omega arith)
     inserted_at (suc i) (y ∷ ys) l = inserted_at i ys (omega arith)
 
-    inserted_behind : (i k : ℕ) (xs : List X) → i ≤ k → i ≤ length xs → nth (suc k) (inserted (suc i) x xs) ≡ nth k xs
+    inserted_behind : (i k : ℕ) (xs : List X) → i ≤ k → i ≤ length xs → slice_get (insert xs i x) (suc k) ≡ slice_get xs k
     inserted_behind zero k xs h l = refl
     inserted_behind (suc i) zero xs h l = absurd (omega arith)
     inserted_behind (suc i) (suc k) [] h l = absurd (omega arith)
@@ -41,7 +42,7 @@ module _ {X : Type 0} where
 
   module _ (d i : ℕ) (x : X) (xs : List X) (d5 : d < 5) (i5 : i < 5) (xs5 : length xs ≡ 5) where
     abbrev rest : List X
-    rest = removed (suc d) xs
+    rest = remove xs d
 
     rest4 : length rest ≡ 4
     rest4 = let r = length-remove xs d (omega arith) in omega arith

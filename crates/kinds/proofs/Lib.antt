@@ -1,4 +1,3 @@
-pub mod Fives
 pub mod Changes
 pub mod Shown
 pub mod Rules

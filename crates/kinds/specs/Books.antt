@@ -1,12 +1,14 @@
 -- Books of two sides, as values and as their numbers: the bid's before the offer's.
 use Rattle.std.specs.Prelude.{◌≡◌, ℕ, Bool, true, false, cond, ◌||◌, List, ◌++◌, take, drop, replicate, ◌==◌, refl}
-use Rattle.std.proofs.lemmas.Bool.{eqb-true}
+use Rattle.std.proofs.lemmas.Bool.{eqb-true, false≢true}
 use Rattle.codes.specs.Codes.{event_byte}
 use Rattle.codes.specs.declared.quote.Side.{Side}
 use Rattle.codes.specs.declared.quote.Side.TheVariants as side
 use Rattle.messages.specs.Content.{Content, quote, imbalance, event, form_code}
 use Rattle.messages.specs.declared.fields.EventForm.{EventForm}
+use Rattle.messages.specs.declared.fields.QuoteFields.{QuoteFields}
 use Rattle.kinds.specs.declared.book.Book.{Book}
+use Rattle.kinds.specs.Meaning.{Meaning}
 
 -- a book as numbers, by those of a side
 abbrev pub shown : {S : Type 0} → (S → List ℕ) → Book S → List ℕ
@@ -23,11 +25,7 @@ empties_bid f = code_of f == 66 || code_of f == 67
 abbrev pub empties_offer : EventForm → Bool
 empties_offer f = code_of f == 65 || code_of f == 67
 
--- a book after an event
-abbrev pub cleared_book : {S : Type 0} → S → EventForm → Book S → Book S
-cleared_book empty f b = record { bid = cond (empties_bid f) empty b.bid; offer = cond (empties_offer f) empty b.offer }
-
--- the same of the numbers, so many for each side
+-- the numbers of a book after an event, so many for each side
 abbrev pub cleared : ℕ → EventForm → List ℕ → List ℕ
 cleared width f ns =
     cond (empties_bid f) (replicate width 0) (take width ns) ++ cond (empties_offer f) (replicate width 0) (drop width ns)
@@ -49,3 +47,34 @@ book_settles (event e) = clears_all e.form
 
 pub clears_same : (width : ℕ) (f : EventForm) → clears_all f ≡ true → (r r' : List ℕ) → cleared width f r ≡ cleared width f r'
 clears_same width f e r r' = let code = eqb-true (code_of f) 67 e in rw (code) refl
+
+-- A kind of book: so many numbers for each side, the quotes that it takes, and what one makes of the numbers of its side.
+module _ (width : ℕ) (takes : QuoteFields → Bool) (after : QuoteFields → List ℕ → List ℕ) where
+  abbrev pub book_belongs : Content → Bool
+  book_belongs (quote q) = takes q
+  book_belongs (imbalance i) = false
+  book_belongs (event e) = true
+
+  -- a quote that it takes changes its side, any other leaves the numbers
+  abbrev pub after_quote : QuoteFields → List ℕ → List ℕ
+  after_quote q ns = cond (takes q) (on_side width q.side (after q) ns) ns
+
+  abbrev pub book_step : List ℕ → Content → List ℕ
+  book_step ns (quote q) = after_quote q ns
+  book_step ns (imbalance i) = ns
+  book_step ns (event e) = cleared width e.form ns
+
+  abbrev pub book_meaning : Meaning
+  book_meaning =
+      record {
+        empty = replicate width 0 ++ replicate width 0;
+        belongs = book_belongs;
+        settles = book_settles;
+        step = book_step;
+        law = law;
+      }
+    where
+      law : (c : Content) → book_settles c ≡ true → (r r' : List ℕ) → book_step r c ≡ book_step r' c
+      law (quote q) e r r' = absurd (false≢true e)
+      law (imbalance i) e r r' = absurd (false≢true e)
+      law (event e) s r r' = clears_same width e.form s r r'

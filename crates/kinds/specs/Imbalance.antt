@@ -17,9 +17,9 @@ auction_shown (Some a) = auction_code a
 abbrev pub imbalance_shown : ImbalanceRecord → List ℕ
 imbalance_shown r = auction_shown r.auction ∷ r.time ∷ r.contracts ∷ r.price ∷ r.total ∷ r.market ∷ []
 
--- what a message says
-abbrev pub said : ImbalanceFields → List ℕ
-said i = auction_code i.auction ∷ i.time ∷ i.contracts ∷ i.price ∷ i.total ∷ i.market ∷ []
+-- the record that a message makes
+abbrev pub record_of : ImbalanceFields → ImbalanceRecord
+record_of i = record { auction = Some i.auction; time = i.time; contracts = i.contracts; price = i.price; total = i.total; market = i.market }
 
 -- imbalance messages alone belong, and each settles
 abbrev pub is_imbalance : Content → Bool
@@ -29,7 +29,7 @@ is_imbalance (event e) = false
 
 abbrev pub step : List ℕ → Content → List ℕ
 step ns (quote q) = ns
-step ns (imbalance i) = said i
+step ns (imbalance i) = imbalance_shown (record_of i)
 step ns (event e) = ns
 
 abbrev pub imbalance_meaning : Meaning

@@ -1,32 +1,30 @@
 -- Levels in a list, counted from 1, the best one first.
-use Rattle.std.specs.Prelude.{◌≡◌, ℕ, zero, suc, ◌<◌, ◌≤◌, false, List, [], ◌∷◌, ◌++◌, length, take, drop, Some, None, Option, ◌==◌}
+use Rattle.std.specs.Prelude.{◌≡◌, ℕ, zero, suc, ◌*◌, ◌<◌, ◌≤◌, false, List, [], ◌∷◌, length, Some, None, Option, ◌==◌, refl}
+use Rattle.std.specs.List.{insert, remove, slice_get, flat_map}
+use Rattle.std.proofs.Common.{ap, sym, ◌∙◌}
+use Rattle.std.proofs.Math.Nat.{suc-mul}
+use Rattle.std.proofs.Math.Numerals.{add-two}
 use Rattle.messages.specs.declared.fields.QuoteFields.{QuoteFields}
 use Rattle.kinds.specs.declared.book.PriceLevel.{PriceLevel}
 
 -- without the level of a number; there is no level 0
 abbrev pub removed : {X : Type 0} → ℕ → List X → List X
 removed zero xs = xs
-removed (suc before) xs = take before xs ++ drop (suc before) xs
+removed (suc before) xs = remove xs before
 
 -- with x as the level of a number
 abbrev pub inserted : {X : Type 0} → ℕ → X → List X → List X
 inserted zero x xs = xs
-inserted (suc before) x xs = take before xs ++ (x ∷ drop before xs)
+inserted (suc before) x xs = insert xs before x
 
 -- the delete level goes, then the new one comes in as the insert level
 abbrev pub moved : {X : Type 0} → ℕ → ℕ → X → List X → List X
 moved delete insert x xs = inserted insert x (removed delete xs)
 
--- the element at an index, counted from 0
-abbrev pub nth : {X : Type 0} → ℕ → List X → Option X
-nth k [] = None
-nth zero (x ∷ xs) = Some x
-nth (suc k) (x ∷ xs) = nth k xs
-
 -- level k, where there is one
 abbrev pub level : {X : Type 0} → ℕ → List X → Option X
 level zero xs = None
-level (suc k) xs = nth k xs
+level (suc k) xs = slice_get xs k
 
 -- What a change means for each level. Together the laws fix every level of the side after it.
 pub record Change {X : Type 0} (delete insert : ℕ) (new : X) (before after : List X) : Type 0 where
@@ -48,8 +46,15 @@ abbrev pub level_shown : PriceLevel → List ℕ
 level_shown l = l.price ∷ l.contracts ∷ []
 
 abbrev pub numbers : List PriceLevel → List ℕ
-numbers [] = []
-numbers (l ∷ ls) = l.price ∷ l.contracts ∷ numbers ls
+numbers ls = flat_map level_shown ls
+
+length-numbers : (ls : List PriceLevel) → length (numbers ls) ≡ length ls * 2
+length-numbers [] = refl
+length-numbers (l ∷ ls) = ap (λ n. suc (suc n)) (length-numbers ls) ∙ sym (add-two (length ls * 2)) ∙ sym (suc-mul (length ls) 2)
+
+-- five levels are ten numbers
+pub ten : (ls : List PriceLevel) → length ls ≡ 5 → length (numbers ls) ≡ 10
+ten ls five = length-numbers ls ∙ ap (λ n. n * 2) five
 
 -- the levels of such numbers; an odd last number is of none
 abbrev pub levels_in : List ℕ → List PriceLevel

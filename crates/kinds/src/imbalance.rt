@@ -1,12 +1,14 @@
 // Imbalance: what the last imbalance message said.
-ghost use Rattle.kinds.specs.Imbalance.{imbalance_meaning, imbalance_shown};
+ghost use Rattle.std.specs.Prelude.{◌≡◌};
+ghost use Rattle.kinds.specs.Imbalance.{record_of, imbalance_meaning, imbalance_shown};
 
 use crate::kind::Kind;
 use codes::auction::Auction;
+use messages::fields::ImbalanceFields;
 use messages::message::Message;
 
 // The numbers of the last message; all are 0, and there is no auction, before the first.
-#[derive(Clone, Copy)]
+#[derive(Clone, Copy, Default)]
 pub struct ImbalanceRecord {
     pub auction: Option<Auction>,
     // Hours times 100, plus minutes.
@@ -15,6 +17,22 @@ pub struct ImbalanceRecord {
     pub price: u32,
     pub total: u32,
     pub market: u32,
+}
+
+// What a message says.
+impl From<ImbalanceFields> for ImbalanceRecord {
+    ghost from_gives = { λ fields held. held ≡ record_of fields };
+
+    fn from(fields: ImbalanceFields) -> ImbalanceRecord {
+        ImbalanceRecord {
+            auction: Some(fields.auction),
+            time: fields.time,
+            contracts: fields.contracts,
+            price: fields.price,
+            total: fields.total,
+            market: fields.market,
+        }
+    }
 }
 
 // The kind.
@@ -28,14 +46,7 @@ impl Kind for Imbalance {
     ghost shows = { imbalance_shown };
 
     fn empty() -> ImbalanceRecord {
-        ImbalanceRecord {
-            auction: None,
-            time: 0,
-            contracts: 0,
-            price: 0,
-            total: 0,
-            market: 0,
-        }
+        ImbalanceRecord::default()
     }
 
     fn belongs(message: &Message) -> bool {
@@ -48,15 +59,7 @@ impl Kind for Imbalance {
 
     fn step(held: &mut ImbalanceRecord, message: &Message) {
         if let Message::Imbalance(imbalance) = message {
-            let fields = imbalance.fields();
-            *held = ImbalanceRecord {
-                auction: Some(fields.auction),
-                time: fields.time,
-                contracts: fields.contracts,
-                price: fields.price,
-                total: fields.total,
-                market: fields.market,
-            };
+            *held = imbalance.fields().into();
         }
     }
 }

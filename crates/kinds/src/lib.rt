@@ -6,4 +6,5 @@ pub mod depth;
 pub mod imbalance;
 pub mod kind;
 pub mod meanings;
+pub mod side;
 pub mod top;

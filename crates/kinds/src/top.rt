@@ -1,76 +1,37 @@
 // Top: the best level of each side.
-ghost use Rattle.std.specs.Prelude.{◌≡◌};
-ghost use Rattle.kinds.specs.Books.{cleared};
-ghost use Rattle.kinds.specs.Top.{top, top_shown, of_top, after_quote};
+ghost use Rattle.std.specs.Prelude.{[], ◌∷◌, refl};
+ghost use Rattle.std.proofs.Common.{ap₂};
+ghost use Rattle.kinds.specs.Levels.{level_shown};
+ghost use Rattle.kinds.specs.Top.{of_top, best_after};
 
-use crate::book::{Book, PriceLevel, settles};
-use crate::kind::Kind;
-use codes::quote::Side;
-use messages::fields::{EventForm, QuoteFields};
-use messages::message::Message;
-
-// Only a quote whose two levels are 1 is of the best level.
-fn is_of_top(quote: QuoteFields) -> bool
-    ensures { result ≡ of_top quote }
-{
-    quote.insert.number() == 1 && quote.delete.number() == 1
-}
-
-impl Book<PriceLevel> {
-    // The quote's level replaces that of its side; a quote of another level leaves the book.
-    fn quote(&mut self, quote: QuoteFields)
-        ensures { top_shown self.new ≡ after_quote quote (top_shown self.old) }
-    {
-        if is_of_top(quote) {
-            match quote.side {
-                Side::Bid => self.bid = PriceLevel::from_quote(quote),
-                Side::Offer => self.offer = PriceLevel::from_quote(quote),
-            }
-        }
-    }
-
-    // `A` empties the offer, `B` the bid, `C` both; every other event leaves the book.
-    fn event(&mut self, form: EventForm)
-        ensures { top_shown self.new ≡ cleared 2 form (top_shown self.old) }
-    {
-        self.clear(form, PriceLevel::empty());
-    }
-}
+use crate::book::{BookOf, PriceLevel};
+use crate::side::BookSide;
+use codes::quote::Level;
+use messages::fields::QuoteFields;
 
 // The kind.
-pub struct Top;
+pub type Top = BookOf<PriceLevel>;
 
-impl Kind for Top {
-    type Record = Book<PriceLevel>;
+impl BookSide for PriceLevel {
+    ghost width = { 2 };
 
-    ghost meaning = { top };
+    ghost shows = { level_shown };
 
-    ghost shows = { top_shown };
+    ghost takes = { of_top };
 
-    fn empty() -> Book<PriceLevel> {
-        Book {
-            bid: PriceLevel::empty(),
-            offer: PriceLevel::empty(),
-        }
+    ghost after = { best_after };
+
+    // Only a quote whose two levels are 1 is of the best level.
+    fn takes(quote: QuoteFields) -> bool {
+        matches!(quote.insert, Level::First) && matches!(quote.delete, Level::First)
     }
 
-    fn belongs(message: &Message) -> bool {
-        match message {
-            Message::Quote(quote) => is_of_top(quote.fields()),
-            Message::Event(_) => true,
-            Message::Imbalance(_) => false,
-        }
+    // The quote's level comes in the place of the old one.
+    fn quote(&mut self, quote: QuoteFields) {
+        *self = quote.into();
     }
 
-    fn settles(message: &Message) -> bool {
-        settles(message)
-    }
+    ghost fits = { λ side. refl };
 
-    fn step(held: &mut Book<PriceLevel>, message: &Message) {
-        match message {
-            Message::Quote(quote) => held.quote(quote.fields()),
-            Message::Event(event) => held.event(event.fields().form),
-            Message::Imbalance(_) => {}
-        }
-    }
+    ghost empty = { λ side default. ap₂ (λ price contracts. price ∷ contracts ∷ []) default.0 default.1 };
 }

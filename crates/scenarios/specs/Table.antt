@@ -6,9 +6,9 @@ use Rattle.codes.specs.declared.quote.Level.{Level}
 use Rattle.codes.specs.declared.quote.Level.TheVariants.{Second, Third, Fourth, Fifth}
 use Rattle.messages.specs.Content.{quote}
 use Rattle.messages.specs.declared.fields.QuoteFields.{QuoteFields}
-use Rattle.kinds.specs.contracts.depth.DepthKind.TheImpl.{ghosts as depth_kind}
 use Rattle.kinds.specs.declared.book.PriceLevel.{PriceLevel}
 use Rattle.kinds.specs.Levels.{numbers}
+use Rattle.kinds.specs.Meaning.{Meaning}
 
 -- a level by its price and its contracts
 abbrev pub at : ℕ → ℕ → PriceLevel
@@ -46,12 +46,12 @@ abbrev pub quote_of : (on : Side) (delete insert : Level) (new : PriceLevel) (st
 quote_of on delete insert new stamp number symbol =
     record { stamp = stamp; number = number; symbol = symbol; side = on; insert = insert; delete = delete; contracts = new.contracts; price = new.price }
 
--- a row holds of Depth, with any five levels on the other side
-abbrev pub Holds : Scenario → Type 0
-Holds (book on before delete insert new after) =
+-- a row holds of a meaning, with any five levels on the other side
+abbrev pub Holds : Meaning → Scenario → Type 0
+Holds m (book on before delete insert new after) =
     (other : List PriceLevel) → length other ≡ 5 → (stamp number : ℕ) (symbol : List ℕ) →
-    depth_kind.meaning.step (book_with on before other) (quote (quote_of on delete insert new stamp number symbol)) ≡ book_with on after other
+    m.step (book_with on before other) (quote (quote_of on delete insert new stamp number symbol)) ≡ book_with on after other
 
-abbrev pub AllHold : List Scenario → Type 0
-AllHold [] = Unit {0}
-AllHold (s ∷ rest) = Holds s × AllHold rest
+abbrev pub AllHold : Meaning → List Scenario → Type 0
+AllHold m [] = Unit {0}
+AllHold m (s ∷ rest) = Holds m s × AllHold m rest

@@ -1,12 +1,6 @@
-use Rattle.std.proofs.Common.{[], ◌∷◌, ap}
-use Rattle.kinds.specs.Imbalance.{auction_shown}
+use Rattle.std.proofs.Common.{refl}
 use Rattle.kinds.proofs.Rules.{imbalance_rules}
 use Rattle.kinds.proofs.meanings.imbalance_rules.Goals as goal
 
 pub returns : goal.returns
-returns c =
-    record {
-      meaning = imbalance_rules;
-      none = λ r e. ap (λ auction. auction_shown auction ∷ r.time ∷ r.contracts ∷ r.price ∷ r.total ∷ r.market ∷ []) e;
-      shows = λ r a e. ap (λ auction. auction_shown auction ∷ r.time ∷ r.contracts ∷ r.price ∷ r.total ∷ r.market ∷ []) e;
-    }
+returns c = record { meaning = imbalance_rules; none = λ r e. rw (e) refl; shows = λ r a e. rw (e) refl }
