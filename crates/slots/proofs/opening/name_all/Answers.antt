@@ -1,4 +1,4 @@
-use Rattle.std.proofs.Common.{◌<◌, ◌≤◌, min, length, sym, ◌∙◌, arith, length-set}
+use Rattle.std.proofs.Common.{◌<◌, ◌≤◌, min, length, sym, refl, ◌∙◌, arith, length-set}
 use Rattle.std.proofs.lemmas.List.{length-map}
 use Rattle.runs.proofs.Openings.{named_past}
 use Rattle.slots.specs.Slots.{watching, watchings}
@@ -13,8 +13,8 @@ loop-i-preserved g c =
     let i = c.loop-i.i in
     let within : i < length ss = omega (arith, c.min-i-end.ensures, c.loop-i.invariant.0, c.loop-i-test.true) in
     let few : i < length xs = omega (arith, c.min-i-end.ensures, c.loop-i-test.true) in (
-      length-set ss i c.name_one.new.slot ∙ c.loop-i.invariant.0,
-      name_on shows ss xs i c.index-slots-i.result c.name_one.new.slot _ within few c.name_one.ensures ∙ c.loop-i.invariant.1,
+      length-set ss i _ ∙ c.loop-i.invariant.0,
+      name_on shows ss xs i c.index-slots-i.result _ _ within few refl ∙ c.loop-i.invariant.1,
     )
 
 pub returns : goal.returns
