@@ -1,5 +1,5 @@
 -- The place of a series' slot, and what an offer does there.
-use Rattle.std.proofs.Common.{◌≡◌, ℕ, zero, suc, ◌+◌, ◌<◌, ◌≤◌, Bool, true, false, cond, List, [], ◌∷◌, ◌++◌, map, length, get_or, take, drop, set, Some, None, Ok, Err, sym, refl, ap, ◌∙◌, arith}
+use Rattle.std.proofs.Common.{◌≡◌, ℕ, zero, suc, ◌+◌, ◌<◌, ◌≤◌, min, Bool, true, false, cond, List, [], ◌∷◌, ◌++◌, map, length, get_or, take, drop, set, Some, None, Ok, Err, sym, refl, ap, ◌∙◌, arith}
 use Rattle.std.specs.Str.{bytes_eq}
 use Rattle.std.specs.List.{position_or_len}
 use Rattle.std.proofs.lemmas.Grind.{common_steps}
@@ -11,7 +11,7 @@ use Rattle.std.proofs.lemmas.Bool.{cond-true, cond-false}
 use Rattle.codes.specs.Refusals.{alone}
 use Rattle.kinds.specs.Meaning.{Meaning}
 use Rattle.runs.specs.Taking.{Numbered, takes, taken}
-use Rattle.runs.proofs.Openings.{named_from, named_more}
+use Rattle.runs.proofs.Openings.{named_from, named_more, named_past}
 use Rattle.runs.specs.States.{view, view_of}
 use Rattle.runs.specs.Watching.{Watched, renewed, offered, moves}
 use Rattle.slots.specs.Slots.{watching, watchings, place}
@@ -110,10 +110,17 @@ module _ {R : Type 0} (shows : R → List ℕ) (K : Meaning) (xs ys : List (Slot
       rw (take_all i (watchings shows xs) all, drop_all i (watchings shows xs) all, append-nil (map (renewed K) (watchings shows xs))) at so_far
 
 -- slots named one after another
-pub name_on : {R : Type 0} (shows : R → List ℕ) (ss : List (Slot R)) (xs : List (List ℕ)) (i : ℕ) (d y : Slot R) (s : List ℕ) → i < length ss → i < length xs → watching shows y ≡ record { symbol = get_or xs i s; slot = (watching shows (get_or ss i d)).slot } → named_from (watchings shows (set ss i y)) xs (i + 1) ≡ named_from (watchings shows ss) xs i
-name_on shows ss xs i d y s lt few h =
-    let w = watching shows (get_or ss i d) in
-    let long : i < length (watchings shows ss) = omega (arith, length-map ss (watching shows)) in
-    let here = get_or-map (watching shows) ss i d w lt in
-    ap (λ ws. named_from ws xs (i + 1)) (map-set (watching shows) ss i y)
-    ∙ named_more (watchings shows ss) xs i w (watching shows y) s long few (h ∙ ap (λ (v : Watched). record { symbol = get_or xs i s; slot = v.slot }) (sym here))
+module _ {R : Type 0} (shows : R → List ℕ) (ss : List (Slot R)) (xs : List (List ℕ)) (i : ℕ) (all : List Watched) (so_far : named_from (watchings shows ss) xs i ≡ all) where
+  pub name_on : (d y : Slot R) (s : List ℕ) → i < length ss → i < length xs → watching shows y ≡ record { symbol = get_or xs i s; slot = (watching shows (get_or ss i d)).slot } → named_from (watchings shows (set ss i y)) xs (i + 1) ≡ all
+  name_on d y s lt few h =
+      let w = watching shows (get_or ss i d) in
+      let long : i < length (watchings shows ss) = omega (arith, length-map ss (watching shows)) in
+      let here = get_or-map (watching shows) ss i d w lt in
+      ap (λ ws. named_from ws xs (i + 1)) (map-set (watching shows) ss i y)
+      ∙ named_more (watchings shows ss) xs i w (watching shows y) s long few (h ∙ ap (λ (v : Watched). record { symbol = get_or xs i s; slot = v.slot }) (sym here))
+      ∙ so_far
+
+  pub name_end : min (length ss) (length xs) ≤ i → watchings shows ss ≡ all
+  name_end past =
+      let none : min (length (watchings shows ss)) (length xs) ≤ i = omega (arith, length-map ss (watching shows)) in
+      sym (named_past (watchings shows ss) xs i none) ∙ so_far

@@ -22,6 +22,7 @@ fn is_good(symbol: &Symbol, before: &[Symbol]) -> bool
 }
 
 // The index of the first symbol that is malformed, or stands before it too.
+#[tactic(auto, using(runs::proofs::WatchLists::bad_here, runs::proofs::WatchLists::bad_on, runs::proofs::WatchLists::bad_end))]
 fn first_bad(symbols: &[Symbol]) -> Option<usize>
     ensures { result ≡ bad_from [] 0 symbols.now }
 {
@@ -51,6 +52,7 @@ pub fn check_watch_list<R>(symbols: &[Symbol], slots: &[Slot<R>]) -> Result<(), 
 }
 
 // Each slot gets a symbol of the list, as far as both go.
+#[tactic(auto, using(crate::proofs::Places::name_on, crate::proofs::Places::name_end))]
 pub fn name_all<K: Kind>(slots: &mut [Slot<K::Record>], symbols: &[Symbol])
     ensures { watchings K.Kind.shows slots.new ≡ named (watchings K.Kind.shows slots.old) symbols.now }
 {

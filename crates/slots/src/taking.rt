@@ -36,6 +36,7 @@ fn take<K: Kind>(slot: &mut Slot<K::Record>, number: u32, message: &Message) -> 
 }
 
 // A numbered message goes to the slot of its series, if there is one; whether the last number moved.
+#[tactic(auto, using(crate::proofs::Places::offered_at, crate::proofs::Places::offered_none, crate::proofs::Places::moves_none))]
 fn offer<K: Kind>(
     slots: &mut [Slot<K::Record>],
     symbol: &Symbol,
@@ -90,6 +91,7 @@ pub fn feed_all<K: Kind>(slots: &mut [Slot<K::Record>], packet: Packet) -> usize
 }
 
 // All slots, for a session to start: an empty record, and no message.
+#[tactic(auto, using(crate::proofs::Places::renew_on, crate::proofs::Places::renew_end))]
 pub fn renew_all<K: Kind>(slots: &mut [Slot<K::Record>])
     ensures { watchings K.Kind.shows slots.new ≡ map (renewed K.Kind.meaning) (watchings K.Kind.shows slots.old) }
 {
