@@ -65,18 +65,20 @@ pub(crate) struct Checked<'a> {
     ghost first: { packet.header.kind ≡ Messages → 0 < length (contents_of (items packet.header.subscription 8 (drop 8 packet.bytes.now))) },
 }
 
-// A packet that the table does not refuse, rows 1 to 8.
-#[tactic(auto, using(runs::proofs::Checks::checked_refused, runs::proofs::Checks::checked_faulty, runs::proofs::Checks::checked_good, runs::proofs::Headers::read_header, std::proofs::lemmas::Result::err_from_is_err_and))]
-pub(crate) fn receive<K: Kind>(
-    bytes: &[u8],
-    subscription: u8,
-    waiting: bool,
-) -> Result<Checked<'_>, Refusal>
-    ensures verdict { answered (λ c. c.packet.header) result ≡ checked K.Kind.meaning subscription waiting bytes.now }
-    ensures bytes { IfOk result (λ c. c.packet.bytes.now ≡ bytes.now) }
-    ensures own { IfOk result (λ c. c.packet.header.subscription ≡ subscription) }
-{
-    let packet = Packet::read(bytes, subscription)?;
-    check::<K>(packet, waiting)?;
-    Ok(Checked { packet })
+impl<'a> Checked<'a> {
+    // A packet that the table does not refuse, rows 1 to 8.
+    #[tactic(auto, using(runs::proofs::Checks::checked_refused, runs::proofs::Checks::checked_faulty, runs::proofs::Checks::checked_good, runs::proofs::Headers::read_header, std::proofs::lemmas::Result::err_from_is_err_and))]
+    pub(crate) fn read<K: Kind>(
+        bytes: &'a [u8],
+        subscription: u8,
+        waiting: bool,
+    ) -> Result<Checked<'a>, Refusal>
+        ensures verdict { answered (λ c. c.packet.header) result ≡ checked K.Kind.meaning subscription waiting bytes.now }
+        ensures bytes { IfOk result (λ c. c.packet.bytes.now ≡ bytes.now) }
+        ensures own { IfOk result (λ c. c.packet.header.subscription ≡ subscription) }
+    {
+        let packet = Packet::read(bytes, subscription)?;
+        check::<K>(packet, waiting)?;
+        Ok(Checked { packet })
+    }
 }

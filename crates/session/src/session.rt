@@ -11,7 +11,7 @@ ghost use Rattle.runs.specs.Watching.{named};
 ghost use Rattle.session.specs.Sessions.{state, seen_by, sent_as};
 ghost use Rattle.slots.specs.Slots.{watching, watchings};
 
-use crate::check::{Checked, receive};
+use crate::check::Checked;
 use crate::progress::Progress;
 use codes::packet::PacketType;
 use codes::refusal::Refusal;
@@ -52,15 +52,14 @@ pub struct Look<'a, R> {
 fn show<K: Kind>(slot: &Slot<K::Record>) -> Look<'_, K::Record>
     ensures { seen_by K.Kind.shows result ≡ view (watching K.Kind.shows slot.now).slot }
 {
-    let mark = if slot.kept.last < slot.seen {
-        Mark::Stale
-    } else {
-        Mark::Current
-    };
     Look {
         record: &slot.kept.record,
         last: slot.kept.last,
-        mark,
+        mark: if slot.kept.last < slot.seen {
+            Mark::Stale
+        } else {
+            Mark::Current
+        },
     }
 }
 
@@ -154,7 +153,7 @@ impl<'a, K: Kind> Session<'a, K> {
         ensures same { self.new.slots.ghost_name ≡ self.old.slots.ghost_name }
         ensures law { DeliverLaw K.Kind.meaning (state K.Kind.shows self.old) bytes.now (answered (λ n. n) result) (state K.Kind.shows self.new) }
     {
-        let checked = receive::<K>(bytes, self.subscription, self.is_waiting())?;
+        let checked = Checked::read::<K>(bytes, self.subscription, self.is_waiting())?;
         match checked.packet.header().kind {
             PacketType::Messages => Ok(self.arrive(checked)),
             PacketType::Heartbeat => {

@@ -1,5 +1,5 @@
 use Rattle.runs.proofs.Checks.{first_there}
-use Rattle.session.proofs.check.receive.Goals as goal
+use Rattle.session.proofs.check.Checked.read.Goals as goal
 
 pub invariant_of-result-clause-first : goal.invariant_of-result-clause-first
 invariant_of-result-clause-first g c =
