@@ -40,23 +40,13 @@ fn shows(
     rt: &impl Abort,
     session: &Session<Depth>,
     last: u32,
-    stale: bool,
+    mark: Mark,
     price: u32,
 ) -> Result<(), Fail> {
-    match told(session.look(&WATCHED)) {
-        Ok(look) => {
-            assert_eq!(rt;
-                (look.last, matches!(look.mark, Mark::Stale)),
-                (last, stale)
-            );
-            assert_eq!(rt; look.record.bid.levels[0].price, price);
-            Ok(())
-        }
-        Err(refused) => {
-            assert_eq!(rt; refused, (0, None));
-            Ok(())
-        },
-    }
+    let look = told(session.look(&WATCHED))?;
+    assert_eq!(rt; (look.last, look.mark), (last, mark));
+    assert_eq!(rt; look.record.bid.levels[0].price, price);
+    Ok(())
 }
 
 #[test]
@@ -66,14 +56,14 @@ fn lost_late_and_repeated(rt: HostRuntime) -> Result<(), Fail> {
     takes(&rt, &mut session, &reset(1, 42), 0, 2, 1);
     takes(&rt, &mut session, &quoted(2, WATCHED, 1, 10), 1, 3, 2);
     takes(&rt, &mut session, &quoted(4, WATCHED, 3, 30), 0, 3, 4);
-    shows(&rt, &session, 1, true, 10)?;
+    shows(&rt, &session, 1, Mark::Stale, 10)?;
     takes(&rt, &mut session, &quoted(3, WATCHED, 2, 20), 1, 4, 4);
-    shows(&rt, &session, 2, true, 20)?;
+    shows(&rt, &session, 2, Mark::Stale, 20)?;
     takes(&rt, &mut session, &quoted(4, WATCHED, 3, 30), 1, 5, 4);
-    shows(&rt, &session, 3, false, 30)?;
+    shows(&rt, &session, 3, Mark::Current, 30)?;
     takes(&rt, &mut session, &quoted(2, WATCHED, 1, 10), 0, 5, 4);
     takes(&rt, &mut session, &reset(1, 42), 0, 5, 4);
-    shows(&rt, &session, 3, false, 30)
+    shows(&rt, &session, 3, Mark::Current, 30)
 }
 
 #[test]
@@ -84,9 +74,9 @@ fn another_stamp_starts_over(rt: HostRuntime) -> Result<(), Fail> {
     takes(&rt, &mut session, &quoted(2, WATCHED, 1, 10), 1, 3, 2);
     takes(&rt, &mut session, &heartbeat(9), 0, 3, 9);
     takes(&rt, &mut session, &reset(1, 43), 0, 2, 1);
-    shows(&rt, &session, 0, false, 0)?;
+    shows(&rt, &session, 0, Mark::Current, 0)?;
     takes(&rt, &mut session, &quoted(2, OTHER, 1, 10), 0, 3, 2);
-    shows(&rt, &session, 0, false, 0)
+    shows(&rt, &session, 0, Mark::Current, 0)
 }
 
 #[test]
@@ -103,7 +93,7 @@ fn settled_past_a_hole(rt: HostRuntime) -> Result<(), Fail> {
         3,
         5,
     );
-    shows(&rt, &session, 1, true, 10)?;
+    shows(&rt, &session, 1, Mark::Stale, 10)?;
     takes(
         &rt,
         &mut session,
@@ -112,7 +102,7 @@ fn settled_past_a_hole(rt: HostRuntime) -> Result<(), Fail> {
         3,
         4_294_967_294,
     );
-    shows(&rt, &session, 4_294_967_293, true, 0)?;
+    shows(&rt, &session, 4_294_967_293, Mark::Stale, 0)?;
     takes(
         &rt,
         &mut session,
@@ -121,7 +111,7 @@ fn settled_past_a_hole(rt: HostRuntime) -> Result<(), Fail> {
         3,
         4_294_967_294,
     );
-    shows(&rt, &session, 4_294_967_294, false, 40)
+    shows(&rt, &session, 4_294_967_294, Mark::Current, 40)
 }
 
 #[test]
@@ -138,5 +128,5 @@ fn refused(rt: HostRuntime) -> Result<(), Fail> {
     broken[51] = 0;
     refuses(&rt, &mut session, &broken, 5, Some(8));
     assert_eq!(rt; (session.next(), session.top()), (2, 1));
-    shows(&rt, &session, 0, false, 0)
+    shows(&rt, &session, 0, Mark::Current, 0)
 }

@@ -13,10 +13,7 @@ pub(crate) const OTHER: Symbol = *b"MSQAK\0\0\0";
 
 // A value, or the returned number with its offset or index.
 pub(crate) fn told<T>(answer: Result<T, Refusal>) -> Result<T, (u8, Option<usize>)> {
-    match answer {
-        Ok(value) => Ok(value),
-        Err(refusal) => Err((refusal.number(), refusal.place())),
-    }
+    answer.map_err(|refusal| (refusal.number(), refusal.place()))
 }
 
 // A bid at a price comes in as level 1, level 5 goes.

@@ -1,5 +1,6 @@
 -- Which lists of symbols can be watched.
-use Rattle.std.specs.Prelude.{ℕ, suc, Bool, false, cond, not, ◌&&◌, ◌||◌, List, [], ◌∷◌, ◌++◌, length, Some, None, Option, ◌==◌, nat_lt}
+use Rattle.std.specs.Prelude.{ℕ, suc, Bool, cond, not, ◌&&◌, List, [], ◌∷◌, ◌++◌, length, Some, None, Option, ◌==◌, nat_lt}
+use Rattle.std.specs.List.{list_any}
 use Rattle.std.specs.Option.{option_map}
 use Rattle.std.specs.Str.{bytes_eq}
 use Rattle.codes.specs.Refusals.{Returned, placed}
@@ -7,8 +8,7 @@ use Rattle.messages.specs.Symbols.{well_formed}
 use Rattle.runs.specs.Verdicts.{or_else}
 
 abbrev pub among : List ℕ → List (List ℕ) → Bool
-among symbol [] = false
-among symbol (s ∷ ss) = bytes_eq s symbol || among symbol ss
+among symbol symbols = list_any (λ s. bytes_eq s symbol) symbols
 
 -- the index of the first symbol that is malformed or stands before it too, where the symbols before are given
 abbrev pub bad_from : (before : List (List ℕ)) → ℕ → List (List ℕ) → Option ℕ

@@ -1,14 +1,15 @@
 -- The stamp of a packet's first message.
-use Rattle.std.proofs.Common.{◌≡◌, ℕ, List, [], ◌∷◌, Some, None, Option, refl}
+use Rattle.std.proofs.Common.{◌≡◌, ℕ, List, [], ◌∷◌, Some, None, Option, slice_get, refl}
+use Rattle.std.specs.Option.{option_map}
 use Rattle.feed.specs.Items.{Item, good, refused, nth}
-use Rattle.runs.specs.States.{contents_of, stamp_in, stamp_of}
+use Rattle.runs.specs.States.{contents_of, stamp_in}
 
-abbrev pub stamp_if : Option Item → ℕ
-stamp_if None = 0
-stamp_if (Some (refused r)) = 0
-stamp_if (Some (good offset c)) = stamp_in c
+abbrev pub stamp_if : Option Item → Option ℕ
+stamp_if None = None
+stamp_if (Some (refused r)) = None
+stamp_if (Some (good offset c)) = Some (stamp_in c)
 
-pub first_stamp : (is : List Item) → stamp_if (nth 0 is) ≡ stamp_of (contents_of is)
+pub first_stamp : (is : List Item) → option_map stamp_in (slice_get (contents_of is) 0) ≡ stamp_if (nth 0 is)
 first_stamp [] = refl
 first_stamp (refused r ∷ rest) = refl
 first_stamp (good offset c ∷ rest) = refl

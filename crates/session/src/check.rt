@@ -1,8 +1,10 @@
 // Why a packet is refused for its messages, found before anything is changed.
-ghost use Rattle.std.specs.Prelude.{◌≡◌, ◌≤◌, drop, IfOk};
+ghost use Rattle.std.specs.Prelude.{◌≡◌, ◌<◌, ◌≤◌, length, drop, IfOk};
 ghost use Rattle.codes.specs.Refusals.{answered, refusal_of};
 ghost use Rattle.messages.specs.Messages.{content};
 ghost use Rattle.feed.specs.Items.{items};
+ghost use Rattle.codes.specs.declared.packet.PacketType.TheVariants.{Messages};
+ghost use Rattle.runs.specs.States.{contents_of};
 ghost use Rattle.runs.specs.Verdicts.{is_reset, startable, judged, refused_for, checked};
 
 use codes::packet::PacketType;
@@ -16,10 +18,7 @@ use messages::numbers::HEADER_SIZE;
 fn is_reset(message: &Message) -> bool
     ensures { result ≡ is_reset (content message.now) }
 {
-    match message {
-        Message::Event(event) => matches!(event.fields().form, EventForm::Reset),
-        Message::Quote(_) | Message::Imbalance(_) => false,
-    }
+    matches!(message, Message::Event(event) if matches!(event.fields().form, EventForm::Reset))
 }
 
 // The reset stands at the front of packet 1 and nowhere else; every other message belongs.
@@ -40,10 +39,7 @@ fn judge<K: Kind>(number: u32, offset: usize, message: &Message) -> Result<(), R
 fn is_startable(kind: PacketType, number: u32) -> bool
     ensures { result ≡ startable kind number }
 {
-    match kind {
-        PacketType::Messages => number == 1,
-        PacketType::Heartbeat => false,
-    }
+    matches!(kind, PacketType::Messages) && number == 1
 }
 
 // Rows 5 to 8: the first faulty message, and then a packet that comes before the reset.
@@ -61,18 +57,28 @@ fn check<K: Kind>(packet: Packet, waiting: bool) -> Result<(), Refusal>
     Ok(())
 }
 
-// A packet that the table does not refuse, rows 1 to 8.
-pub(crate) fn receive<K: Kind>(
-    bytes: &[u8],
-    subscription: u8,
-    waiting: bool,
-) -> Result<Packet<'_>, Refusal>
-    ensures verdict { answered (λ p. p.header) result ≡ checked K.Kind.meaning subscription waiting bytes.now }
-    ensures bytes { IfOk result (λ p. p.bytes.now ≡ bytes.now) }
-    ensures own { IfOk result (λ p. p.header.subscription ≡ subscription) }
-    ensures number { IfOk result (λ p. p.header.number ≤ 4294967294) }
-{
-    let packet = Packet::read(bytes, subscription)?;
-    check::<K>(packet, waiting)?;
-    Ok(packet)
+// A packet that the checks let through.
+#[derive(Clone, Copy)]
+pub(crate) struct Checked<'a> {
+    pub(crate) packet: Packet<'a>,
+    ghost numbered: { packet.header.number ≤ 4294967294 },
+    ghost first: { packet.header.kind ≡ Messages → 0 < length (contents_of (items packet.header.subscription 8 (drop 8 packet.bytes.now))) },
+}
+
+impl<'a> Checked<'a> {
+    // A packet that the table does not refuse, rows 1 to 8.
+    #[tactic(auto, using(runs::proofs::Checks::checked_refused, runs::proofs::Checks::checked_faulty, runs::proofs::Checks::checked_good, runs::proofs::Headers::read_header, std::proofs::lemmas::Result::err_from_is_err_and))]
+    pub(crate) fn read<K: Kind>(
+        bytes: &'a [u8],
+        subscription: u8,
+        waiting: bool,
+    ) -> Result<Checked<'a>, Refusal>
+        ensures verdict { answered (λ c. c.packet.header) result ≡ checked K.Kind.meaning subscription waiting bytes.now }
+        ensures bytes { IfOk result (λ c. c.packet.bytes.now ≡ bytes.now) }
+        ensures own { IfOk result (λ c. c.packet.header.subscription ≡ subscription) }
+    {
+        let packet = Packet::read(bytes, subscription)?;
+        check::<K>(packet, waiting)?;
+        Ok(Checked { packet })
+    }
 }

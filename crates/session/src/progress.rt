@@ -1,7 +1,9 @@
 // How far a session is: the packet it expects next, and the highest it knows of.
 ghost use Rattle.std.specs.Prelude.{◌≡◌, ◌+◌, ◌≤◌, max, if◌then◌else◌, nat_eq};
 
-#[derive(Clone, Copy)]
+use crate::check::Checked;
+
+#[derive(Clone, Copy, Debug, PartialEq, Eq)]
 pub(crate) struct Progress {
     pub(crate) next: u32,
     pub(crate) top: u32,
@@ -11,11 +13,11 @@ pub(crate) struct Progress {
 
 impl Progress {
     // After an M packet: the expected one alone moves next.
-    pub(crate) fn after(self, number: u32) -> Progress
-        requires { number ≤ 4294967294 }
-        ensures next { result.next ≡ (if nat_eq number self.next then self.next + 1 else self.next) }
-        ensures top { result.top ≡ max self.top number }
+    pub(crate) fn after(self, checked: Checked) -> Progress
+        ensures next { result.next ≡ (if nat_eq checked.entry.packet.header.number self.next then self.next + 1 else self.next) }
+        ensures top { result.top ≡ max self.top checked.entry.packet.header.number }
     {
+        let number = checked.packet.header().number;
         Progress {
             next: if number == self.next {
                 self.next + 1
@@ -27,14 +29,13 @@ impl Progress {
     }
 
     // After a heartbeat.
-    pub(crate) fn heard(self, number: u32) -> Progress
-        requires { number ≤ 4294967294 }
+    pub(crate) fn heard(self, checked: Checked) -> Progress
         ensures next { result.next ≡ self.next }
-        ensures top { result.top ≡ max self.top number }
+        ensures top { result.top ≡ max self.top checked.entry.packet.header.number }
     {
         Progress {
             next: self.next,
-            top: self.top.max(number),
+            top: self.top.max(checked.packet.header().number),
         }
     }
 }

@@ -1,15 +1,17 @@
 // A session over slots that are lent to it: what it holds, and its calls.
-ghost use Rattle.std.specs.Prelude.{◌≡◌, ◌≤◌, drop};
+ghost use Rattle.std.specs.Prelude.{◌≡◌, drop, slice_get};
+ghost use Rattle.std.specs.Option.{option_map};
+ghost use Rattle.codes.specs.declared.packet.PacketType.TheVariants.{Messages};
 ghost use Rattle.codes.specs.Refusals.{answered};
 ghost use Rattle.messages.specs.Messages.{content};
 ghost use Rattle.feed.specs.Items.{items};
-ghost use Rattle.runs.specs.States.{opened, delivered, delivered_in, looked, waits, view, starts_over, stamp_of, stamp_in, contents_of, packet_in, arrived, arrived_count};
+ghost use Rattle.runs.specs.States.{opened, delivered, looked, waits, view, stamp_in, contents_of, arrived, arrived_count};
 ghost use Rattle.runs.specs.Runs.{DeliverLaw, LookLaw};
 ghost use Rattle.runs.specs.Watching.{named};
-ghost use Rattle.session.specs.Sessions.{state, seen_by};
+ghost use Rattle.session.specs.Sessions.{state, seen_by, sent_as};
 ghost use Rattle.slots.specs.Slots.{watching, watchings};
 
-use crate::check::receive;
+use crate::check::Checked;
 use crate::progress::Progress;
 use codes::packet::PacketType;
 use codes::refusal::Refusal;
@@ -32,14 +34,14 @@ pub struct Session<'a, K: Kind> {
 }
 
 // Whether a series shows its highest number that has come.
-#[derive(Clone, Copy)]
+#[derive(Clone, Copy, Debug, PartialEq, Eq)]
 pub enum Mark {
     Current,
     Stale,
 }
 
 // What is shown of a series.
-#[derive(Drop)]
+#[derive(Debug, PartialEq, Eq, Drop)]
 pub struct Look<'a, R> {
     pub record: &'a R,
     pub last: u32,
@@ -50,15 +52,14 @@ pub struct Look<'a, R> {
 fn show<K: Kind>(slot: &Slot<K::Record>) -> Look<'_, K::Record>
     ensures { seen_by K.Kind.shows result ≡ view (watching K.Kind.shows slot.now).slot }
 {
-    let mark = if slot.kept.last < slot.seen {
-        Mark::Stale
-    } else {
-        Mark::Current
-    };
     Look {
         record: &slot.kept.record,
         last: slot.kept.last,
-        mark,
+        mark: if slot.kept.last < slot.seen {
+            Mark::Stale
+        } else {
+            Mark::Current
+        },
     }
 }
 
@@ -82,27 +83,13 @@ pub fn open_session<'a, K: Kind>(
     }
 }
 
-// Packet 1 starts a session, unless it has the session's own stamp.
-fn starts_over(own: Option<u32>, number: u32, stamp: u32) -> bool
-    ensures { result ≡ starts_over own number stamp }
+// The stamp of the packet's first message, if one can be read.
+#[tactic(auto, using(crate::proofs::Stamps::first_stamp))]
+fn first_stamp(packet: Packet) -> Option<u32>
+    ensures { result ≡ option_map stamp_in (slice_get (contents_of (items packet.entry.header.subscription 8 (drop 8 packet.entry.bytes.now))) 0) }
 {
-    match own {
-        None => number == 1,
-        Some(own) => number == 1 && own != stamp,
-    }
-}
-
-// The stamp of the packet's first message.
-fn first_stamp(packet: Packet) -> u32
-    ensures { result ≡ stamp_of (contents_of (items packet.entry.header.subscription 8 (drop 8 packet.entry.bytes.now))) }
-{
-    let Some(first) = packet.message(0) else {
-        return 0;
-    };
-    match first {
-        Ok((_, message)) => stamp(&message),
-        Err(_) => 0,
-    }
+    let (_, message) = packet.message(0)?.ok()?;
+    Some(stamp(&message))
 }
 
 fn stamp(message: &Message) -> u32
@@ -137,73 +124,56 @@ impl<'a, K: Kind> Session<'a, K> {
         self.stamp.is_none()
     }
 
-    // Takes an M packet that was checked; how many of its messages moved a last number.
-    fn arrive(&mut self, packet: Packet) -> usize
-        requires { packet.header.number ≤ 4294967294 }
-        ensures answer { result ≡ arrived_count K.Kind.meaning (state K.Kind.shows self.old) (packet_in packet.entry.header.subscription packet.entry.header.number packet.entry.bytes.now) }
-        ensures after { state K.Kind.shows self.new ≡ arrived K.Kind.meaning (state K.Kind.shows self.old) (packet_in packet.entry.header.subscription packet.entry.header.number packet.entry.bytes.now) }
+    // Takes an M packet; how many of its messages moved a last number. Packet 1 starts a session, unless it has the
+    // session's own stamp.
+    fn arrive(&mut self, checked: Checked) -> usize
+        requires { checked.packet.header.kind ≡ Messages }
+        ensures answer { result ≡ arrived_count K.Kind.meaning (state K.Kind.shows self.old) (sent_as checked.entry) }
+        ensures after { state K.Kind.shows self.new ≡ arrived K.Kind.meaning (state K.Kind.shows self.old) (sent_as checked.entry) }
         ensures same { self.new.slots.ghost_name ≡ self.old.slots.ghost_name }
     {
-        let number = packet.header().number;
+        let packet = checked.packet;
         let stamp = first_stamp(packet);
-        if starts_over(self.stamp, number, stamp) {
+        if packet.header().number == 1 && self.stamp != stamp {
             renew_all::<K>(self.slots);
-            self.stamp = Some(stamp);
+            self.stamp = stamp;
             self.progress = Progress { next: 2, top: 1 };
         } else {
-            self.progress = self.progress.after(number);
+            self.progress = self.progress.after(checked);
         }
         feed_all::<K>(self.slots, packet)
     }
 
-    // The checks first, and then the packet as a whole.
-    fn accept(&mut self, bytes: &[u8]) -> Result<usize, Refusal>
-        ensures answer { answered (λ n. n) result ≡ (delivered_in K.Kind.meaning (state K.Kind.shows self.old) bytes.now).0 }
-        ensures after { state K.Kind.shows self.new ≡ (delivered_in K.Kind.meaning (state K.Kind.shows self.old) bytes.now).1 }
-        ensures same { self.new.slots.ghost_name ≡ self.old.slots.ghost_name }
-    {
-        let packet = receive::<K>(bytes, self.subscription, self.stamp.is_none())?;
-        let header = packet.header();
-        match header.kind {
-            PacketType::Messages => Ok(self.arrive(packet)),
-            PacketType::Heartbeat => {
-                self.progress = self.progress.heard(header.number);
-                Ok(0)
-            }
-        }
-    }
-
     // Takes one packet, whole or not at all: how many of its messages moved a last number, or the refusal, 1 to 8, of
     // the uppermost row that is met; then nothing has changed.
+    #[tactic(auto, unfolding(runs::specs::States::delivered))]
     pub fn deliver(&mut self, bytes: &[u8]) -> Result<usize, Refusal>
         ensures answer { answered (λ n. n) result ≡ (delivered K.Kind.meaning (state K.Kind.shows self.old) bytes.now).0 }
         ensures after { state K.Kind.shows self.new ≡ (delivered K.Kind.meaning (state K.Kind.shows self.old) bytes.now).1 }
         ensures same { self.new.slots.ghost_name ≡ self.old.slots.ghost_name }
         ensures law { DeliverLaw K.Kind.meaning (state K.Kind.shows self.old) bytes.now (answered (λ n. n) result) (state K.Kind.shows self.new) }
     {
-        self.accept(bytes)
-    }
-
-    // The slot of the symbol, shown.
-    fn find_and_show(&self, symbol: &Symbol) -> Result<Look<'_, K::Record>, Refusal>
-        ensures { answered (seen_by K.Kind.shows) result ≡ looked (state K.Kind.shows self.now) symbol.now }
-    {
-        if self.stamp.is_none() {
-            return Err(Refusal::NoReset);
+        let checked = Checked::read::<K>(bytes, self.subscription, self.is_waiting())?;
+        match checked.packet.header().kind {
+            PacketType::Messages => Ok(self.arrive(checked)),
+            PacketType::Heartbeat => {
+                self.progress = self.progress.heard(checked);
+                Ok(0)
+            }
         }
-        let slots = &*self.slots;
-        let i = find(slots, symbol);
-        if i >= slots.len() {
-            return Err(Refusal::NotWatched);
-        }
-        Ok(show::<K>(&slots[i]))
     }
 
     // What is shown of a watched series: refusal 8 while waiting, 11 for a symbol that is not watched.
+    #[tactic(auto, using(runs::proofs::Theorem::look_law, slots::proofs::Places::viewed_at, slots::proofs::Places::viewed_none, std::proofs::lemmas::Result::err_from_is_err_and))]
     pub fn look(&self, symbol: &Symbol) -> Result<Look<'_, K::Record>, Refusal>
         ensures answer { answered (seen_by K.Kind.shows) result ≡ looked (state K.Kind.shows self.now) symbol.now }
         ensures law { LookLaw K.Kind.meaning (state K.Kind.shows self.now) symbol.now (answered (seen_by K.Kind.shows) result) }
     {
-        self.find_and_show(symbol)
+        if self.is_waiting() {
+            return Err(Refusal::NoReset);
+        }
+        let slots = &*self.slots;
+        let i = find(slots, symbol).ok_or(Refusal::NotWatched)?;
+        Ok(show::<K>(&slots[i]))
     }
 }

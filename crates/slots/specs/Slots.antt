@@ -1,5 +1,5 @@
 -- What slots mean.
-use Rattle.std.specs.Prelude.{ℕ, suc, cond, List, [], ◌∷◌, map}
+use Rattle.std.specs.Prelude.{ℕ, List, map, Option, position}
 use Rattle.std.specs.Str.{bytes_eq}
 use Rattle.runs.specs.Watching.{Watched}
 use Rattle.slots.specs.declared.slot.Slot.{Slot}
@@ -11,7 +11,6 @@ watching shows s = record { symbol = s.symbol; slot = record { kept = record { s
 abbrev pub watchings : {R : Type 0} → (R → List ℕ) → List (Slot R) → List Watched
 watchings shows ss = map (watching shows) ss
 
--- the place of the first slot of a symbol, or how many slots there are
-abbrev pub place : {R : Type 0} → List ℕ → List (Slot R) → ℕ
-place symbol [] = 0
-place symbol (s ∷ ss) = cond (bytes_eq s.symbol symbol) 0 (suc (place symbol ss))
+-- the place of the first slot of a symbol
+abbrev pub place : {R : Type 0} → List ℕ → List (Slot R) → Option ℕ
+place {R} symbol ss = position (λ (s : Slot R). bytes_eq s.symbol symbol) ss

@@ -7,7 +7,6 @@ ghost use Rattle.runs.specs.Watching.{named};
 ghost use Rattle.slots.specs.Slots.{watching, watchings};
 
 use crate::slot::Slot;
-use crate::taking::is_same;
 use codes::refusal::Refusal;
 use kinds::kind::Kind;
 use messages::symbol::{Symbol, is_well_formed};
@@ -15,31 +14,20 @@ use messages::symbol::{Symbol, is_well_formed};
 // The most series that a session watches.
 pub const MOST_SYMBOLS: usize = 1_024;
 
-// Whether a symbol is among some.
-fn is_among(symbol: &Symbol, symbols: &[Symbol]) -> bool
-    ensures { result ≡ among symbol.now symbols.now }
-{
-    for i in 0..symbols.len() {
-        if is_same(&symbols[i], symbol) {
-            return true;
-        }
-    }
-    false
-}
-
 // Well formed, and not among those before it.
 fn is_good(symbol: &Symbol, before: &[Symbol]) -> bool
     ensures { result ≡ (well_formed symbol.now && not (among symbol.now before.now)) }
 {
-    is_well_formed(symbol) && !is_among(symbol, before)
+    is_well_formed(symbol) && !before.contains(symbol)
 }
 
 // The index of the first symbol that is malformed, or stands before it too.
+#[tactic(auto, using(runs::proofs::WatchLists::bad_here, runs::proofs::WatchLists::bad_on, runs::proofs::WatchLists::bad_end))]
 fn first_bad(symbols: &[Symbol]) -> Option<usize>
     ensures { result ≡ bad_from [] 0 symbols.now }
 {
-    for i in 0..symbols.len() {
-        if !is_good(&symbols[i], &symbols[..i]) {
+    for (i, symbol) in symbols.iter().enumerate() {
+        if !is_good(symbol, &symbols[..i]) {
             return Some(i);
         }
     }
@@ -63,17 +51,13 @@ pub fn check_watch_list<R>(symbols: &[Symbol], slots: &[Slot<R>]) -> Result<(), 
     Ok(())
 }
 
-fn name_one<K: Kind>(slot: &mut Slot<K::Record>, symbol: &Symbol)
-    ensures { watching K.Kind.shows slot.new ≡ record { symbol = symbol.entry.now; slot = (watching K.Kind.shows slot.old).slot } }
-{
-    slot.symbol = *symbol;
-}
-
 // Each slot gets a symbol of the list, as far as both go.
+#[tactic(auto, using(crate::proofs::Places::name_on, crate::proofs::Places::name_end))]
 pub fn name_all<K: Kind>(slots: &mut [Slot<K::Record>], symbols: &[Symbol])
     ensures { watchings K.Kind.shows slots.new ≡ named (watchings K.Kind.shows slots.old) symbols.now }
 {
+    // By index: after a loop over a zip of `iter_mut` a proof knows nothing of the slots.
     for i in 0..slots.len().min(symbols.len()) {
-        name_one::<K>(&mut slots[i], &symbols[i]);
+        slots[i].symbol = symbols[i];
     }
 }

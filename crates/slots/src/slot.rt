@@ -4,14 +4,14 @@ ghost use Rattle.std.specs.Prelude.{◌≡◌, ◌≤◌, replicate};
 use messages::symbol::Symbol;
 
 // A record, and the number of the last message taken into it.
-#[derive(Drop)]
+#[derive(Debug, PartialEq, Eq, Drop)]
 pub struct Kept<R> {
     pub record: R,
     pub last: u32,
 }
 
 // A watched series: what is kept of it, and the highest number of it that was seen.
-#[derive(Drop)]
+#[derive(Debug, PartialEq, Eq, Drop)]
 pub struct Slot<R> {
     pub symbol: Symbol,
     pub kept: Kept<R>,

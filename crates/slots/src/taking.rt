@@ -1,6 +1,5 @@
 // How slots take messages.
 ghost use Rattle.std.specs.Prelude.{◌≡◌, map, drop};
-ghost use Rattle.std.specs.Str.{bytes_eq};
 ghost use Rattle.messages.specs.Messages.{content};
 ghost use Rattle.runs.specs.Taking.{numbered, takes, taken};
 ghost use Rattle.runs.specs.Watching.{renewed, offered, moves, offered_if, moves_if, fed, moved};
@@ -15,22 +14,11 @@ use messages::fields::EventForm;
 use messages::message::Message;
 use messages::symbol::Symbol;
 
-// Whether two symbols are the same.
-pub(crate) fn is_same(one: &Symbol, other: &Symbol) -> bool
-    ensures { result ≡ bytes_eq one.now other.now }
-{
-    one == other
-}
-
-// The place of the first slot of a symbol, or how many slots there are.
-pub fn find<R>(slots: &[Slot<R>], symbol: &Symbol) -> usize
+// The place of the first slot of a symbol, if there is one.
+pub fn find<R>(slots: &[Slot<R>], symbol: &Symbol) -> Option<usize>
     ensures { result ≡ place symbol.now slots.now }
 {
-    let mut i = 0;
-    while i < slots.len() && !is_same(&slots[i].symbol, symbol) {
-        i += 1;
-    }
-    i
+    slots.iter().position(|slot| slot.symbol == *symbol)
 }
 
 // The taking rule; whether the last number moved.
@@ -48,6 +36,7 @@ fn take<K: Kind>(slot: &mut Slot<K::Record>, number: u32, message: &Message) -> 
 }
 
 // A numbered message goes to the slot of its series, if there is one; whether the last number moved.
+#[tactic(auto, using(crate::proofs::Places::offered_at, crate::proofs::Places::offered_none, crate::proofs::Places::moves_none))]
 fn offer<K: Kind>(
     slots: &mut [Slot<K::Record>],
     symbol: &Symbol,
@@ -57,11 +46,9 @@ fn offer<K: Kind>(
     ensures after { watchings K.Kind.shows slots.new ≡ offered K.Kind.meaning (record { symbol = symbol.entry.now; number = number; content = content message.now }) (watchings K.Kind.shows slots.old) }
     ensures answer { result ≡ moves K.Kind.meaning (record { symbol = symbol.entry.now; number = number; content = content message.now }) (watchings K.Kind.shows slots.old) }
 {
-    let i = find(slots, symbol);
-    if i < slots.len() {
-        take::<K>(&mut slots[i], number, message)
-    } else {
-        false
+    match find(slots, symbol) {
+        Some(i) => take::<K>(&mut slots[i], number, message),
+        None => false,
     }
 }
 
@@ -98,27 +85,21 @@ pub fn feed_all<K: Kind>(slots: &mut [Slot<K::Record>], packet: Packet) -> usize
         let Ok((_, message)) = item else {
             return moved;
         };
-        moved += feed::<K>(slots, &message) as usize;
+        moved += usize::from(feed::<K>(slots, &message));
     }
     moved
 }
 
-// An empty record, and no message.
-fn renew<K: Kind>(slot: &mut Slot<K::Record>)
-    ensures { watching K.Kind.shows slot.new ≡ renewed K.Kind.meaning (watching K.Kind.shows slot.old) }
-{
-    slot.kept = Kept {
-        record: K::empty(),
-        last: 0,
-    };
-    slot.seen = 0;
-}
-
-// All slots, for a session to start.
+// All slots, for a session to start: an empty record, and no message.
+#[tactic(auto, using(crate::proofs::Places::renew_on, crate::proofs::Places::renew_end))]
 pub fn renew_all<K: Kind>(slots: &mut [Slot<K::Record>])
     ensures { watchings K.Kind.shows slots.new ≡ map (renewed K.Kind.meaning) (watchings K.Kind.shows slots.old) }
 {
-    for i in 0..slots.len() {
-        renew::<K>(&mut slots[i]);
+    for slot in slots.iter_mut() {
+        slot.kept = Kept {
+            record: K::empty(),
+            last: 0,
+        };
+        slot.seen = 0;
     }
 }

@@ -1,17 +1,14 @@
-use Rattle.codes.specs.Refusals.{answered}
-use Rattle.runs.specs.States.{delivered}
+use Rattle.std.proofs.Common.{arith}
+use Rattle.std.proofs.lemmas.Grind.{common_steps}
 use Rattle.runs.proofs.Accepts.{deliver_law}
 use Rattle.session.specs.Sessions.{state}
 use Rattle.session.proofs.session.Session.deliver.Goals as goal
 
-pub returns : goal.returns
-unfolding delivered
-returns g c =
-    let k = g.K.Kind in
-    let e = c.accept.ensures in
-    record {
-      answer = e.answer;
-      after = e.after;
-      same = e.same;
-      law = deliver_law k.meaning (state k.shows c.args.self.now) c.args.bytes.now (answered (λ n. n) c.accept.result) (state k.shows c.accept.new.self) e.answer e.after;
-    }
+pub returns-in_err-checked-clause-law : goal.returns-in_err-checked-clause-law
+returns-in_err-checked-clause-law g c = deliver_law g.K.Kind.meaning (state g.K.Kind.shows c.args.self.now) c.args.bytes.now _ _ (grind (arith, common_steps)) (grind (arith, common_steps))
+
+pub returns-in-Messages-clause-law : goal.returns-in-Messages-clause-law
+returns-in-Messages-clause-law g c = deliver_law g.K.Kind.meaning (state g.K.Kind.shows c.args.self.now) c.args.bytes.now _ _ (grind (arith, common_steps)) (grind (arith, common_steps))
+
+pub returns-in-Heartbeat-clause-law : goal.returns-in-Heartbeat-clause-law
+returns-in-Heartbeat-clause-law g c = deliver_law g.K.Kind.meaning (state g.K.Kind.shows c.args.self.now) c.args.bytes.now _ _ (grind (arith, common_steps)) (grind (arith, common_steps))
