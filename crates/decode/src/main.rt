@@ -15,7 +15,7 @@ fn show_feed(rt: &HostRuntime, bytes: &[u8]) -> io::Result<()> {
     for (at, packet) in Packets::new(bytes) {
         match packet {
             Ok(packet) => show_packet(rt, at, packet)?,
-            Err(refusal) => println!(rt; "packet {at} {}", Shown(refusal))?,
+            Err(refusal) => println!(rt; "packet {at} {refusal}")?,
         }
     }
     Ok(())
@@ -25,7 +25,7 @@ fn show_feed(rt: &HostRuntime, bytes: &[u8]) -> io::Result<()> {
 fn show_file(rt: &HostRuntime, bytes: &[u8]) -> io::Result<()> {
     let file = match SessionFile::open(bytes) {
         Ok(file) => file,
-        Err(refusal) => return println!(rt; "file {}", Shown(refusal)),
+        Err(refusal) => return println!(rt; "file {refusal}"),
     };
     println!(rt; "file {}", Shown(file.header()))?;
     for symbol in file.symbols() {
@@ -42,13 +42,13 @@ fn show_packet(rt: &HostRuntime, at: usize, bytes: &[u8]) -> io::Result<()> {
     let subscription = bytes.get(3).copied().unwrap_or(0);
     let packet = match Packet::read(bytes, subscription) {
         Ok(packet) => packet,
-        Err(refusal) => return println!(rt; "packet {at} {}", Shown(refusal)),
+        Err(refusal) => return println!(rt; "packet {at} {refusal}"),
     };
     println!(rt; "packet {at} {}", Shown(packet.header()))?;
     for item in packet.messages() {
         match item {
             Ok((offset, message)) => println!(rt; "  {offset} {}", Shown(message))?,
-            Err(refusal) => println!(rt; "  {}", Shown(refusal))?,
+            Err(refusal) => println!(rt; "  {refusal}")?,
         }
     }
     Ok(())

@@ -1,5 +1,4 @@
 // How lines show what they name, a part of each line for a value of each type.
-use codes::refusal::Refusal;
 use feed::packet::Header;
 use messages::fields::{EventFields, EventForm, ImbalanceFields, QuoteFields};
 use messages::message::Message;
@@ -23,16 +22,6 @@ impl fmt::Display for Shown<Symbol> {
     }
 }
 
-impl fmt::Display for Shown<Refusal> {
-    fn fmt<W: fmt::Write>(&self, f: &mut fmt::Formatter<W>) -> fmt::Result {
-        let number = self.0.number();
-        match self.0.place() {
-            Some(place) => write!(f, "refused {number} at {place}"),
-            None => write!(f, "refused {number}"),
-        }
-    }
-}
-
 impl fmt::Display for Shown<FileHeader> {
     fn fmt<W: fmt::Write>(&self, f: &mut fmt::Formatter<W>) -> fmt::Result {
         let FileHeader {
@@ -42,7 +31,7 @@ impl fmt::Display for Shown<FileHeader> {
             kind,
             ..
         } = self.0;
-        let kind = char::from(kind.code());
+        let kind = char::from(u8::from(kind));
         write!(
             f,
             "subscription {subscription} kind {kind} packets {packets} symbols {symbols}"
@@ -57,7 +46,7 @@ impl fmt::Display for Shown<Header> {
             subscription,
             number,
         } = self.0;
-        let kind = char::from(kind.code());
+        let kind = char::from(u8::from(kind));
         write!(f, "{kind} subscription {subscription} number {number}")
     }
 }
@@ -85,9 +74,9 @@ impl fmt::Display for Shown<QuoteFields> {
             price,
         } = self.0;
         let symbol = Shown(symbol);
-        let side = char::from(side.code());
-        let insert = insert.number();
-        let delete = delete.number();
+        let side = char::from(u8::from(side));
+        let insert = u8::from(insert);
+        let delete = u8::from(delete);
         write!(
             f,
             "quote stamp {stamp} number {number} symbol {symbol} side {side} \
@@ -110,7 +99,7 @@ impl fmt::Display for Shown<ImbalanceFields> {
             market,
         } = self.0;
         let symbol = Shown(symbol);
-        let auction = char::from(auction.code());
+        let auction = char::from(u8::from(auction));
         write!(
             f,
             "imbalance stamp {stamp} number {number} symbol {symbol} auction {auction} time {time} \
@@ -129,14 +118,14 @@ impl fmt::Display for Shown<EventFields> {
                 code,
             } => {
                 let symbol = Shown(symbol);
-                let code = char::from(code.code());
+                let code = char::from(u8::from(code));
                 write!(
                     f,
                     "event stamp {stamp} number {number} symbol {symbol} code {code}"
                 )
             }
             EventForm::Underlying(code) => {
-                let code = char::from(code.code());
+                let code = char::from(u8::from(code));
                 write!(f, "underlying stamp {stamp} code {code}")
             }
             EventForm::Reset => write!(f, "reset stamp {stamp}"),

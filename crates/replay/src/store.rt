@@ -5,6 +5,7 @@ ghost use Rattle.replay.specs.Stores.{Shaped, fetchable, fetch_verdict, fetched_
 
 use codes::refusal::Refusal;
 use feed::packet::LONGEST_PACKET;
+use messages::header::RawHeader;
 use messages::numbers::in_range;
 
 // For each number from 1 to 4,294,967,294 a store holds one M packet that carries the number, or nothing.
@@ -50,13 +51,13 @@ pub fn check_fetch(number: u32, room: usize) -> Result<(), Refusal>
 pub fn is_packet(bytes: &[u8], subscription: u8, number: u32) -> bool
     ensures { result ≡ carries subscription number bytes.now }
 {
-    let [l0, l1, code, own_subscription, n0, n1, n2, n3, ..] = bytes else {
+    let Some(header) = RawHeader::read(bytes) else {
         return false;
     };
-    u32::from_be_bytes([*n0, *n1, *n2, *n3]) == number
-        && *code == b'M'
-        && *own_subscription == subscription
+    header.last == number
+        && header.code == b'M'
+        && header.subscription == subscription
         && bytes.len() <= LONGEST_PACKET
-        && u16::from_be_bytes([*l0, *l1]) as usize == bytes.len()
+        && header.length as usize == bytes.len()
         && in_range(number)
 }

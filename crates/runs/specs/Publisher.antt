@@ -1,11 +1,11 @@
 -- What an honest session sends, and what its publisher keeps of each series.
 use Rattle.std.specs.Prelude.{◌≡◌, ℕ, suc, true, false, cond, List, [], ◌∷◌, ◌++◌, map, take, Some, None, Option, ◌≢◌}
 use Rattle.std.specs.Str.{bytes_eq}
-use Rattle.messages.specs.Content.{Content}
+use Rattle.messages.specs.Content.{Content, stamp_in}
 use Rattle.kinds.specs.Meaning.{Meaning}
 use Rattle.runs.specs.Taking.{Numbered, numbered}
 use Rattle.runs.specs.Verdicts.{is_reset}
-use Rattle.runs.specs.States.{Packet, stamp_in}
+use Rattle.runs.specs.States.{Packet}
 
 -- the numbered messages of a packet, in order
 abbrev pub also : Option Numbered → List Numbered → List Numbered

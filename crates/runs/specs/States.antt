@@ -4,7 +4,7 @@ use Rattle.std.specs.Str.{bytes_eq}
 use Rattle.codes.specs.Refusals.{Returned, alone}
 use Rattle.codes.specs.declared.packet.PacketType.{PacketType}
 use Rattle.codes.specs.declared.packet.PacketType.TheVariants.{Messages, Heartbeat}
-use Rattle.messages.specs.Content.{Content, quote, imbalance, event}
+use Rattle.messages.specs.Content.{Content, stamp_in}
 use Rattle.feed.specs.Items.{Item, good, refused, items}
 use Rattle.feed.specs.declared.packet.Header.{Header}
 use Rattle.kinds.specs.Meaning.{Meaning}
@@ -26,11 +26,6 @@ contents_of (good offset c ∷ rest) = c ∷ contents_of rest
 -- the packet that bytes hold
 abbrev pub packet_in : (subscription number : ℕ) → List ℕ → Packet
 packet_in subscription number bytes = record { number = number; contents = contents_of (items subscription 8 (drop 8 bytes)) }
-
-abbrev pub stamp_in : Content → ℕ
-stamp_in (quote q) = q.stamp
-stamp_in (imbalance i) = i.stamp
-stamp_in (event e) = e.stamp
 
 -- the stamp of the first message
 abbrev pub stamp_of : List Content → ℕ

@@ -183,7 +183,7 @@ fn fields(rt: HostRuntime) -> Result<(), Fail> {
             (34_200_001, 1, 10, 135_000)
         );
         assert_eq!(rt;
-            (q.side.code(), q.insert.number(), q.delete.number()),
+            (u8::from(q.side), u8::from(q.insert), u8::from(q.delete)),
             (b'B', 1, 5)
         );
         assert!(rt; q.symbol == *b"MSQAJ\0\0\0");
@@ -193,7 +193,7 @@ fn fields(rt: HostRuntime) -> Result<(), Fail> {
     if let Ok(Message::Imbalance(imbalance)) = read_message(&IMBALANCE, 11, 8) {
         let i = imbalance.fields();
         assert_eq!(rt;
-            (i.stamp, i.number, i.auction.code(), i.time),
+            (i.stamp, i.number, u8::from(i.auction), i.time),
             (34_200_002, 2, b'O', 930)
         );
         assert_eq!(rt;
@@ -206,7 +206,7 @@ fn fields(rt: HostRuntime) -> Result<(), Fail> {
     match read_message(&EVENT, 11, 8) {
         Ok(Message::Event(event)) => match event.fields().form {
             EventForm::Numbered { number, code, .. } => {
-                assert_eq!(rt; (number, code.code()), (3, b'C'));
+                assert_eq!(rt; (number, u8::from(code)), (3, b'C'));
                 Ok(())
             },
             _ => Err(Fail::new("no number")),

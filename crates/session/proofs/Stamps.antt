@@ -2,7 +2,8 @@
 use Rattle.std.proofs.Common.{◌≡◌, ℕ, List, [], ◌∷◌, Some, None, Option, slice_get, refl}
 use Rattle.std.specs.Option.{option_map}
 use Rattle.feed.specs.Items.{Item, good, refused, nth}
-use Rattle.runs.specs.States.{contents_of, stamp_in}
+use Rattle.messages.specs.Content.{stamp_in}
+use Rattle.runs.specs.States.{contents_of}
 
 abbrev pub stamp_if : Option Item → Option ℕ
 stamp_if None = None

@@ -1,8 +1,8 @@
 // Why a packet is refused for its messages, found before anything is changed.
-ghost use Rattle.std.specs.Prelude.{◌≡◌, ◌<◌, ◌≤◌, length, drop, IfOk};
+ghost use Rattle.std.specs.Prelude.{◌≡◌, ◌<◌, ◌≤◌, length, IfOk};
 ghost use Rattle.codes.specs.Refusals.{answered, refusal_of};
 ghost use Rattle.messages.specs.Messages.{content};
-ghost use Rattle.feed.specs.Items.{items};
+ghost use Rattle.feed.specs.Pending.{packet_items};
 ghost use Rattle.codes.specs.declared.packet.PacketType.TheVariants.{Messages};
 ghost use Rattle.runs.specs.States.{contents_of};
 ghost use Rattle.runs.specs.Verdicts.{is_reset, startable, judged, refused_for, checked};
@@ -44,7 +44,7 @@ fn is_startable(kind: PacketType, number: u32) -> bool
 
 // Rows 5 to 8: the first faulty message, and then a packet that comes before the reset.
 fn check<K: Kind>(packet: Packet, waiting: bool) -> Result<(), Refusal>
-    ensures { refusal_of result ≡ refused_for K.Kind.meaning waiting packet.entry.header (items packet.entry.header.subscription 8 (drop 8 packet.entry.bytes.now)) }
+    ensures { refusal_of result ≡ refused_for K.Kind.meaning waiting packet.entry.header (packet_items packet.entry) }
 {
     let header = packet.header();
     for item in packet.messages() {
@@ -62,7 +62,7 @@ fn check<K: Kind>(packet: Packet, waiting: bool) -> Result<(), Refusal>
 pub(crate) struct Checked<'a> {
     pub(crate) packet: Packet<'a>,
     ghost numbered: { packet.header.number ≤ 4294967294 },
-    ghost first: { packet.header.kind ≡ Messages → 0 < length (contents_of (items packet.header.subscription 8 (drop 8 packet.bytes.now))) },
+    ghost first: { packet.header.kind ≡ Messages → 0 < length (contents_of (packet_items packet)) },
 }
 
 impl<'a> Checked<'a> {

@@ -1,11 +1,11 @@
 // A session over slots that are lent to it: what it holds, and its calls.
-ghost use Rattle.std.specs.Prelude.{◌≡◌, drop, slice_get};
+ghost use Rattle.std.specs.Prelude.{◌≡◌, slice_get};
 ghost use Rattle.std.specs.Option.{option_map};
 ghost use Rattle.codes.specs.declared.packet.PacketType.TheVariants.{Messages};
 ghost use Rattle.codes.specs.Refusals.{answered};
-ghost use Rattle.messages.specs.Messages.{content};
-ghost use Rattle.feed.specs.Items.{items};
-ghost use Rattle.runs.specs.States.{opened, delivered, looked, waits, view, stamp_in, contents_of, arrived, arrived_count};
+ghost use Rattle.messages.specs.Content.{stamp_in};
+ghost use Rattle.feed.specs.Pending.{packet_items};
+ghost use Rattle.runs.specs.States.{opened, delivered, looked, waits, view, contents_of, arrived, arrived_count};
 ghost use Rattle.runs.specs.Runs.{DeliverLaw, LookLaw};
 ghost use Rattle.runs.specs.Watching.{named};
 ghost use Rattle.session.specs.Sessions.{state, seen_by, sent_as};
@@ -17,7 +17,6 @@ use codes::packet::PacketType;
 use codes::refusal::Refusal;
 use feed::packet::Packet;
 use kinds::kind::Kind;
-use messages::message::Message;
 use messages::symbol::Symbol;
 use slots::opening::name_all;
 use slots::slot::Slot;
@@ -86,20 +85,10 @@ pub fn open_session<'a, K: Kind>(
 // The stamp of the packet's first message, if one can be read.
 #[tactic(auto, using(crate::proofs::Stamps::first_stamp))]
 fn first_stamp(packet: Packet) -> Option<u32>
-    ensures { result ≡ option_map stamp_in (slice_get (contents_of (items packet.entry.header.subscription 8 (drop 8 packet.entry.bytes.now))) 0) }
+    ensures { result ≡ option_map stamp_in (slice_get (contents_of (packet_items packet.entry)) 0) }
 {
     let (_, message) = packet.message(0)?.ok()?;
-    Some(stamp(&message))
-}
-
-fn stamp(message: &Message) -> u32
-    ensures { result ≡ stamp_in (content message.now) }
-{
-    match message {
-        Message::Quote(quote) => quote.fields().stamp,
-        Message::Imbalance(imbalance) => imbalance.fields().stamp,
-        Message::Event(event) => event.fields().stamp,
-    }
+    Some(message.stamp())
 }
 
 impl<'a, K: Kind> Session<'a, K> {

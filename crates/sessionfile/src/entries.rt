@@ -5,10 +5,9 @@ ghost use Rattle.std.specs.Option.{option_map};
 ghost use Rattle.std.specs.Iterator.{YieldsFirstRef, item_count};
 ghost use Rattle.sessionfile.specs.Entries.{pointed_at, readable, pending};
 
-use crate::array::array_at;
 use crate::header::FileHeader;
 use feed::packet::LONGEST_PACKET;
-use messages::numbers::HEADER_SIZE;
+use messages::numbers::{HEADER_SIZE, array_at};
 
 // The length of a packet offset.
 pub(crate) const OFFSET_SIZE: usize = 4;

@@ -4,9 +4,9 @@ ghost use Rattle.codes.specs.Refusals.{answered, placed};
 ghost use Rattle.messages.specs.Wire.{part};
 ghost use Rattle.sessionfile.specs.Files.{header_fields, first_fault, unless, header_of};
 
-use crate::array::array_at;
 use codes::kind::KindCode;
 use codes::refusal::Refusal;
+use messages::numbers::array_at;
 
 const MOST_PACKETS: u32 = 65_535;
 
@@ -41,7 +41,7 @@ impl FileHeader {
         }
         let [subscription] = field_at::<1>(bytes, 10)?;
         let [code] = field_at::<1>(bytes, 11)?;
-        let kind = KindCode::from_code(code).ok_or(Refusal::BrokenFile(11))?;
+        let kind = KindCode::try_from(code).ok().ok_or(Refusal::BrokenFile(11))?;
         let names = u32::from_be_bytes(field_at(bytes, 12)?);
         Ok(FileHeader {
             packets,

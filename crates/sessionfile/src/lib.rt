@@ -1,7 +1,6 @@
 // The session file: the packets of a session in one file, with the symbols to watch.
 #![tactic(auto)]
 
-mod array;
 pub mod entries;
 pub mod file;
 pub mod header;

@@ -1,16 +1,15 @@
 // How slots take messages.
-ghost use Rattle.std.specs.Prelude.{◌≡◌, map, drop};
+ghost use Rattle.std.specs.Prelude.{◌≡◌, map};
 ghost use Rattle.messages.specs.Messages.{content};
 ghost use Rattle.runs.specs.Taking.{numbered, takes, taken};
 ghost use Rattle.runs.specs.Watching.{renewed, offered, moves, offered_if, moves_if, fed, moved};
-ghost use Rattle.feed.specs.Items.{items};
+ghost use Rattle.feed.specs.Pending.{packet_items};
 ghost use Rattle.runs.specs.States.{contents_of};
 ghost use Rattle.slots.specs.Slots.{watching, watchings, place};
 
 use crate::slot::{Kept, Slot};
 use feed::packet::Packet;
 use kinds::kind::Kind;
-use messages::fields::EventForm;
 use messages::message::Message;
 use messages::symbol::Symbol;
 
@@ -53,32 +52,21 @@ fn offer<K: Kind>(
 }
 
 // A message, whatever it is: an event of an underlying and the reset go to no slot.
+#[tactic(auto, using(crate::proofs::Places::numbered_by_name))]
 fn feed<K: Kind>(slots: &mut [Slot<K::Record>], message: &Message) -> bool
     ensures after { watchings K.Kind.shows slots.new ≡ offered_if K.Kind.meaning (numbered (content message.now)) (watchings K.Kind.shows slots.old) }
     ensures answer { result ≡ moves_if K.Kind.meaning (numbered (content message.now)) (watchings K.Kind.shows slots.old) }
 {
-    match message {
-        Message::Quote(quote) => {
-            let fields = quote.fields();
-            offer::<K>(slots, &fields.symbol, fields.number, message)
-        }
-        Message::Imbalance(imbalance) => {
-            let fields = imbalance.fields();
-            offer::<K>(slots, &fields.symbol, fields.number, message)
-        }
-        Message::Event(event) => match event.fields().form {
-            EventForm::Numbered { number, symbol, .. } => offer::<K>(
-                slots, &symbol, number, message,
-            ),
-            EventForm::Underlying(_) | EventForm::Reset => false,
-        },
-    }
+    let Some((number, symbol)) = message.name() else {
+        return false;
+    };
+    offer::<K>(slots, &symbol, number, message)
 }
 
 // The messages of a packet, in order; how many moved a last number.
 pub fn feed_all<K: Kind>(slots: &mut [Slot<K::Record>], packet: Packet) -> usize
-    ensures after { watchings K.Kind.shows slots.new ≡ fed K.Kind.meaning (watchings K.Kind.shows slots.old) (contents_of (items packet.entry.header.subscription 8 (drop 8 packet.entry.bytes.now))) }
-    ensures answer { result ≡ moved K.Kind.meaning (watchings K.Kind.shows slots.old) (contents_of (items packet.entry.header.subscription 8 (drop 8 packet.entry.bytes.now))) }
+    ensures after { watchings K.Kind.shows slots.new ≡ fed K.Kind.meaning (watchings K.Kind.shows slots.old) (contents_of (packet_items packet.entry)) }
+    ensures answer { result ≡ moved K.Kind.meaning (watchings K.Kind.shows slots.old) (contents_of (packet_items packet.entry)) }
 {
     let mut moved = 0;
     for item in packet.messages() {

@@ -9,6 +9,7 @@ ghost use Rattle.replay.specs.Stores.{holding};
 use crate::cell::{CELL, packet_in};
 use codes::refusal::Refusal;
 use feed::packet::LONGEST_PACKET;
+use messages::header::RawHeader;
 use messages::numbers::in_range;
 use replay::store::{ReplayStore, is_packet};
 
@@ -125,23 +126,19 @@ impl<'a> Window<'a> {
     fn number_to_keep(&self, packet: &[u8]) -> Result<u32, Refusal>
         ensures { answered (λ n. n) result ≡ keepable self.now.subscription packet.now }
     {
-        let [l0, l1, code, own_subscription, n0, n1, n2, n3, ..] = packet else {
-            return Err(Refusal::PacketLength);
-        };
-        let said = u16::from_be_bytes([*l0, *l1]) as usize;
-        if packet.len() > LONGEST_PACKET || said != packet.len() {
+        let header = RawHeader::read(packet).ok_or(Refusal::PacketLength)?;
+        if packet.len() > LONGEST_PACKET || header.length as usize != packet.len() {
             return Err(Refusal::PacketLength);
         }
-        if *own_subscription != self.subscription {
+        if header.subscription != self.subscription {
             return Err(Refusal::OtherSubscription);
         }
-        if *code != b'M' {
+        if header.code != b'M' {
             return Err(Refusal::PacketType);
         }
-        let number = u32::from_be_bytes([*n0, *n1, *n2, *n3]);
-        if !in_range(number) {
+        if !in_range(header.last) {
             return Err(Refusal::NumberOutOfRange);
         }
-        Ok(number)
+        Ok(header.last)
     }
 }
