@@ -1,6 +1,7 @@
 -- How the messages of a packet follow one another.
-use Rattle.std.proofs.Common.{◌≡◌, ℕ, zero, suc, ◌+◌, ◌<◌, ◌≤◌, List, [], ◌∷◌, length, drop, IfSome, Some, None, Option, Ok, Err, Result, sym, refl, ap, ◌∙◌, arith, length-append, length-drop}
-use Rattle.std.proofs.lemmas.List.{drop-drop}
+use Rattle.std.proofs.Common.{◌≡◌, ℕ, zero, suc, ◌+◌, ◌-◌, ◌<◌, ◌≤◌, List, [], ◌∷◌, length, take, drop, IfSome, Some, None, Option, Ok, Err, Result, sym, refl, ap, ◌∙◌, arith, length-append, length-drop}
+use Rattle.std.proofs.lemmas.List.{drop-drop, take_rest}
+use Rattle.messages.specs.Wire.{part}
 use Rattle.messages.specs.Content.{Content, quote, imbalance, event, size}
 use Rattle.feed.specs.Items.{Item, good, refused, item_then, at_most, items}
 use Rattle.messages.specs.Layout.{LaidMessage}
@@ -82,6 +83,25 @@ module _ (subscription : ℕ) (packet : List ℕ) (at : ℕ) (inside : at < leng
 
 pub next_none : (subscription : ℕ) (packet : List ℕ) (at : ℕ) → length packet ≤ at → items subscription at (drop at packet) ≡ []
 next_none subscription packet at h = items_none subscription at (drop at packet) (omega (arith, length-drop at packet))
+
+-- what a call of `next` takes of what is still to come
+pub pending_none : (s : Messages) → length s.packet.now ≤ s.at → pending s ≡ []
+pending_none s past = next_none s.subscription s.packet.now s.at past
+
+module _ (s : Messages) (inside : s.at < length s.packet.now) where
+  abbrev rest : List ℕ
+  rest = take (length s.packet.now - s.at) (drop s.at s.packet.now)
+
+  pub pending_good : (c : Content) (n : ℕ) → Ok c ≡ verdict s.subscription s.at rest → n ≡ size c → (s.at + n ≤ length s.packet.now) × (pending s ≡ good s.at c ∷ pending record { packet = s.packet; at = s.at + n; subscription = s.subscription })
+  pending_good c n read is = next_good s.subscription s.packet.now s.at inside c n (rw take_rest at read) is
+
+  pub own_part : (own : List ℕ) (n : ℕ) → own ≡ take n rest → own ≡ part s.packet.now s.at n
+  own_part own n is = rw take_rest at is
+
+  pub pending_refused : (r : Returned) → Err r ≡ verdict s.subscription s.at rest → pending s ≡ refused r ∷ pending record { packet = s.packet; at = length s.packet.now; subscription = s.subscription }
+  pending_refused r read =
+      let last = next_none s.subscription s.packet.now (length s.packet.now) (omega arith) in
+      next_refused s.subscription s.packet.now s.at inside r (rw take_rest at read) ∙ ap (λ l. refused r ∷ l) (sym last)
 
 -- the item after so many calls of `next` is the one of that index, with its own bytes
 nth_here : (n : ℕ) (s u : Messages) (r : Option (Result (ℕ × Message) Refusal)) → Next s r u → MatchOption r (0 ≤ n) (λ _. 0 ≡ n) → (option_map item_of r ≡ nth n (pending s)) × IfSome r (Cut s.packet.now)

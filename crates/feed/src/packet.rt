@@ -156,6 +156,7 @@ impl<'a> Iterator for Messages<'a> {
     ghost remaining = { λ s. at_most (bytes_left s) };
 
     // The next message with its offset, or the refusal of a broken one, after which nothing is left.
+    #[tactic(auto, using(crate::proofs::Steps::pending_none, crate::proofs::Steps::pending_good, crate::proofs::Steps::own_part, crate::proofs::Steps::pending_refused))]
     fn next(&mut self) -> Option<Result<(usize, Message<'a>), Refusal>> {
         let at = self.at;
         if at >= self.packet.len() {

@@ -57,10 +57,10 @@ fn feed<K: Kind>(slots: &mut [Slot<K::Record>], message: &Message) -> bool
     ensures after { watchings K.Kind.shows slots.new ≡ offered_if K.Kind.meaning (numbered (content message.now)) (watchings K.Kind.shows slots.old) }
     ensures answer { result ≡ moves_if K.Kind.meaning (numbered (content message.now)) (watchings K.Kind.shows slots.old) }
 {
-    let Some((number, symbol)) = message.name() else {
+    let Some(name) = message.name() else {
         return false;
     };
-    offer::<K>(slots, &symbol, number, message)
+    offer::<K>(slots, &name.1, name.0, message)
 }
 
 // The messages of a packet, in order; how many moved a last number.
