@@ -113,8 +113,8 @@ module _ (area packet bytes : List ℕ) (c f n t k : ℕ) (e : c ≡ length area
   written : (f' n' : ℕ) → packets_in new f' n' ≡ take n' (ring f' (set (fronts c area) t packet))
   written f' n' =
       ap (λ (l : List ℕ). packets_in (put_mid (t * 8192) k area l) f' n') same
-      ∙ packets_fronts (put_mid (t * 8192) k area packet) f' n' c (e ∙ ap (λ (l : ℕ). l / 8192) (sym (length-written area packet c t k is w below inside)))
-      ∙ ap (λ (l : List (List ℕ)). take n' (ring f' l)) (fronts-written area packet c t k is w below inside)
+      ∙ packets_fronts (put_mid (t * 8192) k area packet) f' n' c (e ∙ ap (λ (l : ℕ). l / 8192) (sym (length-written (t * 8192) k area packet is (omega (arith, w.longest)))))
+      ∙ ap (λ (l : List (List ℕ)). take n' (ring f' l)) (fronts-written c t area packet k is w below inside)
 
   held : packets_in area f n ≡ take n (ring f (fronts c area))
   held = packets_fronts area f n c e
