@@ -88,6 +88,6 @@ file_verdict file = unless (fault file) (header_of file)
 abbrev pub symbols_inside : List ℕ → (table count : ℕ) → List (List ℕ)
 symbols_inside file table count = symbols_of file table (min count ((length file - table) / 8))
 
--- the same of any symbols: one that is well formed, and none of those before it
+-- of any symbols: whether one is well formed, and none of those before it
 abbrev pub good_symbol : List (List ℕ) → ℕ → Bool
 good_symbol symbols i = well_formed (slice_index_or symbols i []) && not (is_in (slice_index_or symbols i []) (take i symbols))
