@@ -75,7 +75,8 @@ fn feed<K: Kind>(slots: &mut [Slot<K::Record>], message: &Message) -> bool
     }
 }
 
-// The messages of a packet, in order; how many moved a last number.
+// The messages of a packet, in order; how many moved a last number. A loop: of a chain whose closure changes the slots
+// at each message a proof knows nothing.
 pub fn feed_all<K: Kind>(slots: &mut [Slot<K::Record>], packet: Packet) -> usize
     ensures after { watchings K.Kind.shows slots.new ≡ fed K.Kind.meaning (watchings K.Kind.shows slots.old) (contents_of (items packet.entry.header.subscription 8 (drop 8 packet.entry.bytes.now))) }
     ensures answer { result ≡ moved K.Kind.meaning (watchings K.Kind.shows slots.old) (contents_of (items packet.entry.header.subscription 8 (drop 8 packet.entry.bytes.now))) }
