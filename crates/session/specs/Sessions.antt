@@ -1,8 +1,7 @@
 -- What a session means, and what its calls answer.
 use Rattle.std.specs.Prelude.{ℕ, Bool, true, false, List}
-use Rattle.runs.specs.States.{Packet, State, View, packet_in}
+use Rattle.runs.specs.States.{State, View}
 use Rattle.slots.specs.Slots.{watchings}
-use Rattle.session.specs.declared.check.Checked.{Checked}
 use Rattle.session.specs.declared.session.Session.{Session}
 use Rattle.session.specs.declared.session.Look.{Look}
 use Rattle.session.specs.declared.session.Mark.{Mark}
@@ -10,10 +9,6 @@ use Rattle.session.specs.declared.session.Mark.TheVariants.{Current, Stale}
 
 abbrev pub state : {K R : Type 0} → (R → List ℕ) → Session K R → State
 state shows s = record { subscription = s.subscription; stamp = s.stamp; next = s.progress.next; top = s.progress.top; slots = watchings shows s.slots.now }
-
--- what a packet that was checked says
-abbrev pub sent_as : Checked → Packet
-sent_as c = packet_in c.packet.header.subscription c.packet.header.number c.packet.bytes.now
 
 -- stale, or current
 abbrev pub is_stale : Mark → Bool

@@ -33,9 +33,10 @@ impl Progress {
         ensures next { result.next ≡ self.next }
         ensures top { result.top ≡ max self.top checked.entry.packet.header.number }
     {
+        let number = checked.packet.header().number;
         Progress {
             next: self.next,
-            top: self.top.max(checked.packet.header().number),
+            top: self.top.max(number),
         }
     }
 }

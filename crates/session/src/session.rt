@@ -8,7 +8,7 @@ ghost use Rattle.feed.specs.Pending.{packet_items};
 ghost use Rattle.runs.specs.States.{opened, delivered, looked, waits, view, contents_of, arrived, arrived_count};
 ghost use Rattle.runs.specs.Runs.{DeliverLaw, LookLaw};
 ghost use Rattle.runs.specs.Watching.{named};
-ghost use Rattle.session.specs.Sessions.{state, seen_by, sent_as};
+ghost use Rattle.session.specs.Sessions.{state, seen_by};
 ghost use Rattle.slots.specs.Slots.{watching, watchings};
 
 use crate::check::Checked;
@@ -113,28 +113,8 @@ impl<'a, K: Kind> Session<'a, K> {
         self.stamp.is_none()
     }
 
-    // Takes an M packet; how many of its messages moved a last number. Packet 1 starts a session, unless it has the
-    // session's own stamp.
-    fn arrive(&mut self, checked: Checked) -> usize
-        requires { checked.packet.header.kind ≡ Messages }
-        ensures answer { result ≡ arrived_count K.Kind.meaning (state K.Kind.shows self.old) (sent_as checked.entry) }
-        ensures after { state K.Kind.shows self.new ≡ arrived K.Kind.meaning (state K.Kind.shows self.old) (sent_as checked.entry) }
-        ensures same { self.new.slots.ghost_name ≡ self.old.slots.ghost_name }
-    {
-        let packet = checked.packet;
-        let stamp = first_stamp(packet);
-        if packet.header().number == 1 && self.stamp != stamp {
-            renew_all::<K>(self.slots);
-            self.stamp = stamp;
-            self.progress = Progress { next: 2, top: 1 };
-        } else {
-            self.progress = self.progress.after(checked);
-        }
-        feed_all::<K>(self.slots, packet)
-    }
-
     // Takes one packet, whole or not at all: how many of its messages moved a last number, or the refusal, 1 to 8, of
-    // the uppermost row that is met; then nothing has changed.
+    // the uppermost row that is met; then nothing has changed. It holds the same borrow of the lender's slots.
     #[tactic(auto, unfolding(runs::specs::States::delivered))]
     pub fn deliver(&mut self, bytes: &[u8]) -> Result<usize, Refusal>
         ensures answer { answered (λ n. n) result ≡ (delivered K.Kind.meaning (state K.Kind.shows self.old) bytes.now).0 }
@@ -143,11 +123,24 @@ impl<'a, K: Kind> Session<'a, K> {
         ensures law { DeliverLaw K.Kind.meaning (state K.Kind.shows self.old) bytes.now (answered (λ n. n) result) (state K.Kind.shows self.new) }
     {
         let checked = Checked::read::<K>(bytes, self.subscription, self.is_waiting())?;
-        match checked.packet.header().kind {
-            PacketType::Messages => Ok(self.arrive(checked)),
+        let packet = checked.packet;
+        let header = packet.header();
+        match header.kind {
             PacketType::Heartbeat => {
                 self.progress = self.progress.heard(checked);
                 Ok(0)
+            }
+            PacketType::Messages => {
+                // Packet 1 starts a session, unless it has the session's own stamp.
+                let stamp = first_stamp(packet);
+                if header.number == 1 && self.stamp != stamp {
+                    renew_all::<K>(self.slots);
+                    self.stamp = stamp;
+                    self.progress = Progress { next: 2, top: 1 };
+                } else {
+                    self.progress = self.progress.after(checked);
+                }
+                Ok(feed_all::<K>(self.slots, packet))
             }
         }
     }

@@ -63,7 +63,8 @@ fn feed<K: Kind>(slots: &mut [Slot<K::Record>], message: &Message) -> bool
     offer::<K>(slots, &name.1, name.0, message)
 }
 
-// The messages of a packet, in order; how many moved a last number.
+// The messages of a packet, in order; how many moved a last number. A loop: of a chain whose closure changes the slots
+// at each message a proof knows nothing.
 pub fn feed_all<K: Kind>(slots: &mut [Slot<K::Record>], packet: Packet) -> usize
     ensures after { watchings K.Kind.shows slots.new ≡ fed K.Kind.meaning (watchings K.Kind.shows slots.old) (contents_of (packet_items packet.entry)) }
     ensures answer { result ≡ moved K.Kind.meaning (watchings K.Kind.shows slots.old) (contents_of (packet_items packet.entry)) }
