@@ -7,7 +7,8 @@ ghost use Rattle.replay.specs.Stores.{Shaped, fetch_verdict, fetched_into};
 use crate::store::check_fetch;
 use codes::refusal::Refusal;
 
-// A store that lends the packet of a number.
+// A store that lends the packet of a number. Its impl of `ReplayStore` is one call of `fetch_lent`; an impl for all such
+// stores at once would overlap that for references.
 pub trait LendingStore {
     // What is held under a number, and that it has the shape that a replay store asks for.
     ghost held: { Self → ℕ → Option (List ℕ) };

@@ -112,6 +112,7 @@ impl<'a> Window<'a> {
         if cells == 0 {
             return;
         }
+        // Written into the area: of `as_chunks_mut` std does not say what the area ends as.
         let at = (self.first + self.count) % cells * CELL;
         self.area[at..at + packet.len()].copy_from_slice(packet);
         if self.count < cells {
