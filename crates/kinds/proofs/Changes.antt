@@ -1,13 +1,14 @@
 -- What a change means for each level of a side.
-use Rattle.std.proofs.Common.{◌≡◌, ℕ, zero, suc, ◌+◌, ◌<◌, ◌≤◌, false, eqb, List, [], ◌∷◌, length, take, Some, sym, refl, ap, ◌∙◌, subst, ⊎_elim, arith}
+use Rattle.std.proofs.Common.{◌≡◌, ℕ, zero, suc, ◌+◌, ◌<◌, ◌≤◌, false, eqb, List, [], ◌∷◌, length, Some, refl, ap, ◌∙◌, ⊎_elim, arith}
 use Rattle.std.specs.List.{insert, remove, slice_get}
 use Rattle.std.proofs.lemmas.Bool.{cases_lt, eqb-false}
 use Rattle.std.proofs.lemmas.List.Edits.{length-remove, length-insert}
 use Rattle.codes.specs.Codes.{level_number}
 use Rattle.codes.specs.declared.quote.Level.{Level}
 use Rattle.codes.specs.declared.quote.Level.TheVariants as level
-use Rattle.kinds.specs.Levels.{removed, inserted, moved, level as level_at, Change}
+use Rattle.kinds.specs.Levels.{moved, level as level_at, Change}
 
+-- by induction: std's laws of `insert` and `remove` are about `get_or`, at places inside the list alone
 module _ {X : Type 0} where
   removed_ahead : (d k : ℕ) (xs : List X) → k < d → slice_get (remove xs d) k ≡ slice_get xs k
   removed_ahead zero k xs h = absurd (omega arith)
@@ -91,16 +92,8 @@ by_level P f level.Third = f 2 (omega arith)
 by_level P f level.Fourth = f 3 (omega arith)
 by_level P f level.Fifth = f 4 (omega arith)
 
-module _ {X : Type 0} (delete insert : Level) (x : X) (xs : List X) where
-  pub laws : length xs ≡ 5 → Change (level_number delete) (level_number insert) x xs (moved (level_number delete) (level_number insert) x xs)
-  laws five =
-      by_level (λ n. Change n (level_number insert) x xs (moved n (level_number insert) x xs))
-      (λ d d5. by_level (λ n. Change (suc d) n x xs (moved (suc d) n x xs)) (λ i i5. change d i x xs d5 i5 five) insert)
-      delete
-
-  module _ (ys zs : List X) (less : take 4 ys ≡ removed (level_number delete) xs) (more : zs ≡ inserted (level_number insert) x (take 4 ys)) where
-    pub in_turn : zs ≡ moved (level_number delete) (level_number insert) x xs
-    in_turn = more ∙ ap (inserted (level_number insert) x) less
-
-    pub laws_in_turn : length xs ≡ 5 → Change (level_number delete) (level_number insert) x xs zs
-    laws_in_turn five = subst (λ after. Change (level_number delete) (level_number insert) x xs after) (sym in_turn) (laws five)
+pub laws : {X : Type 0} (delete insert : Level) (x : X) (xs : List X) → length xs ≡ 5 → Change (level_number delete) (level_number insert) x xs (moved (level_number delete) (level_number insert) x xs)
+laws delete insert x xs five =
+    by_level (λ n. Change n (level_number insert) x xs (moved n (level_number insert) x xs))
+    (λ d d5. by_level (λ n. Change (suc d) n x xs (moved (suc d) n x xs)) (λ i i5. change d i x xs d5 i5 five) insert)
+    delete

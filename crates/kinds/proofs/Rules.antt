@@ -1,6 +1,6 @@
 -- The three meanings keep their rules.
 use Rattle.std.proofs.Common.{◌≡◌, ℕ, Bool, false, eqb, List, ◌++◌, length, replicate, refl, ap, ◌∙◌, take-append-drop}
-use lib.ListN.{replicate-append-replicate}
+use Rattle.std.proofs.lemmas.List.{replicate-append-replicate}
 use Rattle.messages.specs.declared.fields.EventForm.{EventForm}
 use Rattle.messages.specs.declared.fields.QuoteFields.{QuoteFields}
 use Rattle.kinds.specs.Levels.{new_level, numbers, ten}

@@ -24,6 +24,7 @@ impl BookSide for FiveLevels {
     }
 
     // The delete level goes, then the quote's level comes in as the insert level.
+    #[tactic(auto, using(crate::proofs::Shown::levels_numbers))]
     fn quote(&mut self, quote: QuoteFields) {
         self.change(quote.delete, quote.insert, quote.into());
     }

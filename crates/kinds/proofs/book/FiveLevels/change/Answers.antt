@@ -1,6 +1,7 @@
-use Rattle.std.proofs.Common.{rules}
-use Rattle.kinds.proofs.Changes.{in_turn, laws_in_turn}
+use Rattle.kinds.proofs.Changes.{laws}
 use Rattle.kinds.proofs.book.FiveLevels.change.Goals as goal
 
-pub returns : goal.returns
-returns c = search (rules, in_turn, laws_in_turn)
+pub returns-clause-laws : goal.returns-clause-laws
+returns-clause-laws c =
+    let side = c.args.self.now in
+    rw (c.insert.ensures, c.remove.ensures) (laws c.args.delete c.args.insert c.args.new side.levels side.five)
