@@ -74,7 +74,9 @@ pub fn feed_all<K: Kind>(slots: &mut [Slot<K::Record>], packet: Packet) -> usize
         let Ok((_, message)) = item else {
             return moved;
         };
-        moved += usize::from(feed::<K>(slots, &message));
+        if feed::<K>(slots, &message) {
+            moved += 1;
+        }
     }
     moved
 }
