@@ -3,10 +3,7 @@ use codes::refusal::Refusal;
 
 // A value, or the returned number with its offset or index.
 pub(crate) fn told<T>(answer: Result<T, Refusal>) -> Result<T, (u8, Option<usize>)> {
-    match answer {
-        Ok(value) => Ok(value),
-        Err(refusal) => Err((refusal.number(), refusal.place())),
-    }
+    answer.map_err(|refusal| (refusal.number(), refusal.place()))
 }
 
 // Subscription 11, stamp 34,200,001, number 1 of MSQAJ: a bid of 10 contracts at 13.5000 comes in as level 1, level 5

@@ -131,10 +131,8 @@ fn other_subscription_inside(rt: HostRuntime) -> Result<(), Fail> {
 
 // Where the message of an index stands, and how long it is.
 fn place(packet: Packet<'_>, index: usize) -> Option<(usize, usize)> {
-    match packet.message(index) {
-        Some(Ok((offset, message))) => Some((offset, message.bytes().len())),
-        _ => None,
-    }
+    let (offset, message) = packet.message(index)?.ok()?;
+    Some((offset, message.bytes().len()))
 }
 
 #[test]

@@ -17,18 +17,16 @@ fn reads(rt: &impl Abort, bytes: &[u8]) -> Result<bool, Fail> {
     }
 }
 
-fn quote_with(rt: &impl Abort, at: usize, value: u8) -> Result<bool, Fail> {
-    let mut bytes = QUOTE;
-    if at < 52 {
-        bytes[at] = value;
-    }
-    reads(rt, &bytes)
-}
-
-fn imbalance_with(rt: &impl Abort, at: usize, value: u8) -> Result<bool, Fail> {
-    let mut bytes = IMBALANCE;
-    if at < 60 {
-        bytes[at] = value;
+// The same for a message with one byte changed.
+fn reads_with<const LEN: usize>(
+    rt: &impl Abort,
+    message: [u8; LEN],
+    at: usize,
+    value: u8,
+) -> Result<bool, Fail> {
+    let mut bytes = message;
+    if let Some(byte) = bytes.get_mut(at) {
+        *byte = value;
     }
     reads(rt, &bytes)
 }
@@ -81,7 +79,7 @@ fn quotes(rt: HostRuntime) -> Result<(), Fail> {
         (51, 255, true),
     ];
     for (at, value, expected) in table {
-        assert_eq!(rt; quote_with(&rt, at, value)?, expected);
+        assert_eq!(rt; reads_with(&rt, QUOTE, at, value)?, expected);
     }
     assert!(rt; !numbered(&rt, 0, 0, 0, 0)?);
     assert!(rt; numbered(&rt, 255, 255, 255, 254)?);
@@ -104,7 +102,7 @@ fn imbalances(rt: HostRuntime) -> Result<(), Fail> {
         (59, 255, true),
     ];
     for (at, value, expected) in table {
-        assert_eq!(rt; imbalance_with(&rt, at, value)?, expected);
+        assert_eq!(rt; reads_with(&rt, IMBALANCE, at, value)?, expected);
     }
     let mut bytes = IMBALANCE;
     bytes[42] = 0;
@@ -162,14 +160,10 @@ fn events_without_a_number(rt: HostRuntime) -> Result<(), Fail> {
 
 #[test]
 fn cut_short(rt: HostRuntime) -> Result<(), Fail> {
-    for length in 0..52usize {
-        assert!(rt; !reads(&rt, &QUOTE[0..length])?);
-    }
-    for length in 0..60usize {
-        assert!(rt; !reads(&rt, &IMBALANCE[0..length])?);
-    }
-    for length in 0..44usize {
-        assert!(rt; !reads(&rt, &EVENT[0..length])?);
+    for message in [QUOTE.as_slice(), IMBALANCE.as_slice(), EVENT.as_slice()] {
+        for length in 0..message.len() {
+            assert!(rt; !reads(&rt, &message[..length])?);
+        }
     }
     Ok(())
 }
