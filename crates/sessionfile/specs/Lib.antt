@@ -1,4 +1,3 @@
 pub mod Files
 pub mod Entries
 pub mod Layout
-pub mod Held

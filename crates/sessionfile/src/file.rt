@@ -10,7 +10,7 @@ use crate::entries::{Entries, OFFSET_SIZE};
 use crate::header::FileHeader;
 use codes::refusal::Refusal;
 use messages::symbol::{Symbol, is_well_formed};
-use replay::store::is_packet;
+use replay::store::{ReplayStore, is_packet};
 
 // The length of a symbol's field.
 const SYMBOL_SIZE: usize = 8;
@@ -27,7 +27,6 @@ pub struct SessionFile<'a> {
 impl<'a> SessionFile<'a> {
     ghost use Rattle.replay.specs.Stores.{holding};
     ghost use Rattle.sessionfile.specs.Entries.{entries, symbols, pending};
-    ghost use Rattle.sessionfile.specs.Held.{FileHolds};
 
     // Checks the whole file: refusal 13 at the first field at fault, of the header, then of the packet offsets, then of
     // the symbols.
@@ -35,7 +34,7 @@ impl<'a> SessionFile<'a> {
         ensures verdict { answered (λ f. f.header) result ≡ file_verdict bytes.now }
         ensures law { (is_ok result ≡ true) ↔ WellFormed bytes.now }
         ensures bytes { IfOk result (λ f. f.bytes.now ≡ bytes.now) }
-        ensures holds { IfOk result (λ f. FileHolds f (holding (byte bytes.now 10) (entries bytes.now))) }
+        ensures holds { IfOk result (λ f. (number : ℕ) → ⟦<SessionFile<'a> as ReplayStore>⟧.held f number ≡ holding (byte bytes.now 10) (entries bytes.now) number) }
     {
         let header = FileHeader::read(bytes)?;
         check_packets(bytes, header)?;
