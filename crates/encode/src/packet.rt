@@ -18,6 +18,8 @@ fn check_messages(messages: &[u8], subscription: u8) -> Result<(), Refusal>
     if messages.is_empty() {
         return Err(Refusal::BrokenMessage(HEADER_SIZE));
     }
+    // A cursor, and not the iterator over a packet's messages: that one would carry a second offset through every
+    // packet for the header that these have not got yet.
     let mut at = 0;
     while at < messages.len() {
         let message = read_message(&messages[at..], subscription, HEADER_SIZE + at)?;

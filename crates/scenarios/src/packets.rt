@@ -139,9 +139,7 @@ fn place(packet: Packet<'_>, index: usize) -> Option<(usize, usize)> {
 fn messages_in_order(rt: HostRuntime) -> Result<(), Fail> {
     let mut bytes = packet(rt.alloc(), 148, b'M', 1, &QUOTE)?;
     bytes.extend_from_slice(&EVENT)?;
-    let Ok(packet) = Packet::read(bytes.as_slice(), 11) else {
-        return Err(Fail::new("refused"));
-    };
+    let packet = Packet::read(bytes.as_slice(), 11)?;
     assert_eq!(rt; packet.header().number, 7);
     for (index, expected) in [(0usize, (8usize, 44usize)), (1, (52, 52)), (2, (104, 44))] {
         assert_eq!(rt; place(packet, index), Some(expected));

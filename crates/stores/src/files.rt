@@ -132,9 +132,7 @@ fn fetched<S: ReplayStore>(store: &S, number: u32, room: usize) -> (Result<Optio
 
 #[test]
 fn file_as_store(rt: HostRuntime) -> Result<(), Fail> {
-    let Ok(file) = SessionFile::open(&FIVES) else {
-        return Err(Fail::new("refused"));
-    };
+    let file = SessionFile::open(&FIVES)?;
     let table = [
         (5u32, 8192usize, Ok(Some(9usize)), 77u8),
         (5, 8193, Ok(Some(9)), 77),
@@ -181,12 +179,8 @@ fn piled(
 // Of three stores the first that holds a packet of the number gives it: a window with 5, and then the two files.
 #[test]
 fn pile(rt: HostRuntime) -> Result<(), Fail> {
-    let Ok(first) = SessionFile::open(&FILE) else {
-        return Err(Fail::new("refused"));
-    };
-    let Ok(second) = SessionFile::open(&FIVES) else {
-        return Err(Fail::new("refused"));
-    };
+    let first = SessionFile::open(&FILE)?;
+    let second = SessionFile::open(&FIVES)?;
     let mut area = [0u8; 8192];
     let mut window = Window::over(&mut area, 11);
     assert!(rt; window.keep(b"\0\x08M\x0b\0\0\0\x05").is_ok());
