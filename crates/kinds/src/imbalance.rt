@@ -8,7 +8,7 @@ use messages::fields::ImbalanceFields;
 use messages::message::Message;
 
 // The numbers of the last message; all are 0, and there is no auction, before the first.
-#[derive(Clone, Copy, Default)]
+#[derive(Clone, Copy, Debug, Default, PartialEq, Eq)]
 pub struct ImbalanceRecord {
     pub auction: Option<Auction>,
     // Hours times 100, plus minutes.

@@ -1,11 +1,10 @@
 // A session over slots that are lent to it: what it holds, and its calls.
 ghost use Rattle.std.specs.Prelude.{◌≡◌, slice_get};
 ghost use Rattle.std.specs.Option.{option_map};
-ghost use Rattle.codes.specs.declared.packet.PacketType.TheVariants.{Messages};
 ghost use Rattle.codes.specs.Refusals.{answered};
 ghost use Rattle.messages.specs.Content.{stamp_in};
 ghost use Rattle.feed.specs.Pending.{packet_items};
-ghost use Rattle.runs.specs.States.{opened, delivered, looked, waits, view, contents_of, arrived, arrived_count};
+ghost use Rattle.runs.specs.States.{opened, delivered, looked, waits, view, contents_of};
 ghost use Rattle.runs.specs.Runs.{DeliverLaw, LookLaw};
 ghost use Rattle.runs.specs.Watching.{named};
 ghost use Rattle.session.specs.Sessions.{state, seen_by};

@@ -12,7 +12,7 @@ const MOST_PACKETS: u32 = 65_535;
 
 const MOST_SYMBOLS: u16 = 1_024;
 
-#[derive(Clone, Copy)]
+#[derive(Clone, Copy, Debug, PartialEq, Eq)]
 pub struct FileHeader {
     // How many packet offsets there are, and where they start.
     pub packets: u32,

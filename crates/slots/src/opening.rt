@@ -4,7 +4,7 @@ ghost use Rattle.codes.specs.Refusals.{refusal_of};
 ghost use Rattle.messages.specs.Symbols.{well_formed};
 ghost use Rattle.runs.specs.WatchLists.{among, bad_from, watch_fault};
 ghost use Rattle.runs.specs.Watching.{named};
-ghost use Rattle.slots.specs.Slots.{watching, watchings};
+ghost use Rattle.slots.specs.Slots.{watchings};
 
 use crate::slot::Slot;
 use codes::refusal::Refusal;
