@@ -1,4 +1,3 @@
-pub mod Answers
 pub mod Symbols
 pub mod Verdicts
 pub mod Layouts

@@ -1,6 +1,5 @@
 -- How the tests of a symbol step along its field.
-use Rattle.std.proofs.Common.{◌≡◌, ℕ, zero, suc, ◌+◌, ◌-◌, ◌<◌, ◌≤◌, Bool, true, false, cond, ◌&&◌, eqb, leb, ◌↔◌, List, [], ◌∷◌, ◌++◌, length, get_or, take, drop, replicate, sym, refl, ap, ◌∙◌, arith}
-use Rattle.std.proofs.lemmas.List.{take_rest}
+use Rattle.std.proofs.Common.{◌≡◌, ℕ, zero, suc, ◌+◌, ◌<◌, ◌≤◌, Bool, true, false, cond, ◌&&◌, eqb, leb, ◌↔◌, List, [], ◌∷◌, ◌++◌, length, get_or, drop, replicate, sym, refl, ap, ◌∙◌, arith}
 use Rattle.std.proofs.lemmas.Bool.{cond-true, cond-false, eqb-true, le-leb, leb-true, and_from, and_parts}
 use Rattle.std.proofs.lemmas.List.Folds.{length-prefix_len}
 use Rattle.std.proofs.lemmas.List.Sums.{prefix_len-le-length}
@@ -31,10 +30,6 @@ padded_past_name field = ap (λ n. list_all (λ b. eqb b 0) (drop n field)) (len
 
 pub name_inside : (field : List ℕ) → length (take_while printable field) ≤ length field
 name_inside field = let e = length-prefix_len printable field in let p = prefix_len-le-length printable field in omega arith
-
-pub first_then_rest : (field : List ℕ) → well_formed field ≡ (printable (get_or field 0 0) && padded (take (length field - 1) (drop 1 field)))
-first_then_rest [] = refl
-first_then_rest (b ∷ bs) = ap (λ rest. printable b && padded rest) (sym (take_rest (b ∷ bs) 1))
 
 -- The test says that the field is a symbol.
 nulls_all : (n : ℕ) → nulls (replicate n 0) ≡ true
