@@ -1,5 +1,6 @@
 -- The returned number of each refusal, with its offset or index where it has one.
-use Rattle.std.specs.Prelude.{ℕ, Some, None, Ok, Err, Option, Result}
+use Rattle.std.specs.Prelude.{ℕ, List, ◌++◌, Some, None, Ok, Err, Option, Result, codes}
+use Rattle.std.specs.Fmt.{decimal}
 use Rattle.codes.specs.declared.refusal.Refusal.{Refusal}
 use Rattle.codes.specs.declared.refusal.Refusal.TheVariants.{PacketLength, OtherSubscription, PacketType, NumberOutOfRange, BrokenMessage, MisplacedReset, ForeignMessage, NoReset, BufferTooShort, BadWatchList, NotWatched, WindowArea, BrokenFile, ServerMessage, PacketRange}
 
@@ -31,6 +32,11 @@ number_of (placed number place) = number
 abbrev pub place_of : Returned → Option ℕ
 place_of (alone number) = None
 place_of (placed number place) = Some place
+
+-- how it is printed
+abbrev pub text_of : Returned → List ℕ
+text_of (alone number) = codes "refused " ++ decimal number
+text_of (placed number place) = codes "refused " ++ decimal number ++ codes " at " ++ decimal place
 
 -- an answer, told by a function of its value or by the returned number
 abbrev pub answered : {A B : Type 0} → (A → B) → Result A Refusal → Result B Returned

@@ -1,6 +1,6 @@
 // Why a call was refused. One enum serves the whole project, a case for each returned number.
-ghost use Rattle.std.specs.Prelude.{◌≡◌};
-ghost use Rattle.codes.specs.Refusals.{returned, number_of, place_of};
+ghost use Rattle.std.specs.Prelude.{◌≡◌, Some};
+ghost use Rattle.codes.specs.Refusals.{returned, number_of, place_of, text_of};
 
 use std::error::Error;
 use std::fmt;
@@ -75,6 +75,8 @@ impl Refusal {
 
 // The returned number, and the offset or index where there is one.
 impl fmt::Display for Refusal {
+    ghost output = { λ refusal. Some (text_of (returned refusal)) };
+
     fn fmt<W: fmt::Write>(&self, f: &mut fmt::Formatter<W>) -> fmt::Result {
         let number = self.number();
         match self.place() {

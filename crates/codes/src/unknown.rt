@@ -1,4 +1,6 @@
 // What a byte that is no code is refused as.
+ghost use Rattle.std.specs.Prelude.{Some, codes};
+
 use std::error::Error;
 use std::fmt;
 
@@ -7,6 +9,8 @@ use std::fmt;
 pub struct UnknownCode;
 
 impl fmt::Display for UnknownCode {
+    ghost output = { λ unknown. Some (codes "a code that stands for nothing") };
+
     fn fmt<W: fmt::Write>(&self, f: &mut fmt::Formatter<W>) -> fmt::Result {
         f.write_str("a code that stands for nothing")
     }

@@ -1,9 +1,9 @@
 -- What the verdict comes to at each type of message, from the header and the message's own bytes.
-use Rattle.std.proofs.Common.{◌≡◌, ℕ, ◌<◌, ◌≤◌, Bool, true, false, cond, if◌then◌else◌, ◌&&◌, eqb, leb, List, length, take, IfSome, Some, None, Option, sym, refl, ap, ◌∙◌, arith}
+use Rattle.std.proofs.Common.{◌≡◌, ℕ, ◌<◌, ◌≤◌, Bool, true, false, cond, if◌then◌else◌, ◌&&◌, eqb, leb, List, length, take, Some, None, Option, sym, refl, ap, ◌∙◌, arith}
 use Rattle.std.proofs.lemmas.Bool.{cond-true, cond-false, eq-eqb, ne_eqb, le-leb, and_from}
 use Rattle.std.proofs.lemmas.Bool.Decides.{nat_tests}
-use Rattle.messages.specs.Content.{Content, size}
-use Rattle.messages.specs.Messages.{content, own_bytes}
+use Rattle.messages.specs.Content.{Content}
+use Rattle.messages.specs.Messages.{content}
 use Rattle.messages.specs.Verdict.{message, cut, when, quote_in, imbalance_in, event_in}
 use Rattle.messages.specs.Wire.{byte, be16}
 use Rattle.messages.specs.Header.{header_in, header_at_front}
@@ -40,11 +40,6 @@ module _ (bytes : List ℕ) where
 pub handed_out : (good : Bool) (m : Message) (r : Option Message) → r ≡ then_some good m → option_map content r ≡ when good (content m)
 handed_out true m r e = ap (option_map content) e
 handed_out false m r e = ap (option_map content) e
-
-pub handed_own : (bytes : List ℕ) (good : Bool) (m : Message) (r : Option Message) → r ≡ then_some good m → own_bytes m ≡ take (size (content m)) bytes → IfSome r (λ m. own_bytes m ≡ take (size (content m)) bytes)
-handed_own bytes good m None e own = tt
-handed_own bytes true m (Some k) e own = let same : k ≡ m = cc in ap own_bytes same ∙ own ∙ ap (λ m. take (size (content m)) bytes) (sym same)
-handed_own bytes false m (Some k) e own = let z : ◌≡◌ {A = ℕ} 0 1 = cc in absurd (omega arith)
 
 pub header_is : (bytes : List ℕ) (h : RawHeader) → Some h ≡ header_at_front bytes → h ≡ header_in bytes
 header_is bytes h e = by (leb 8 (length bytes)) e

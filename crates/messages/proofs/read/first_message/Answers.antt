@@ -5,7 +5,7 @@ use Rattle.messages.specs.Messages.{content}
 use Rattle.messages.specs.Verdict.{when, quote_fields, imbalance_fields, event_fields, quote_in, imbalance_in, event_in}
 use Rattle.messages.specs.Content.{quote, imbalance, event}
 use Rattle.messages.specs.declared.message.Message.TheVariants as v
-use Rattle.messages.proofs.Verdicts.{header_is, cut_none, cut_some, handed_out, handed_own, message_short, message_elsewhere, message_quote, message_imbalance, message_event, message_other}
+use Rattle.messages.proofs.Verdicts.{header_is, cut_none, cut_some, handed_out, message_short, message_elsewhere, message_quote, message_imbalance, message_event, message_other}
 use Rattle.messages.proofs.read.first_message.Goals as goal
 
 pub returns-in_err-header-clause-content : goal.returns-in_err-header-clause-content
@@ -65,13 +65,6 @@ returns-in_ok-event-in-118-clause-content c =
     let typed = message_event c.args.subscription bytes (ap (λ x. x.subscription) (sym h) ∙ c.if-header-subscription.false) (ap (λ x. x.code) (sym h) ∙ c.in-118.is) in
     let read = (cut_some bytes 44 _ (ap (λ x. x.length) h) event_in own c.in_ok-event-in-118.ensures).0 in
     handed_out _ (v.Event c.in_ok-event-in-118.event) _ c.then_some-in-118.ensures ∙ ap (λ b. when b (event (event_fields own))) c.is_good_event.ensures ∙ sym (typed ∙ read)
-
-pub returns-in_ok-quote-in-113-clause-own : goal.returns-in_ok-quote-in-113-clause-own
-returns-in_ok-quote-in-113-clause-own c =
-    let bytes = c.args.bytes.now in
-    let h = header_is bytes c.in_ok-header.header c.in_ok-header.ensures in
-    let own = (cut_some bytes 52 _ (ap (λ x. x.length) h) quote_in _ c.in_ok-quote-in-113.ensures).1 in
-    handed_own bytes _ (v.Quote c.in_ok-quote-in-113.quote) _ c.then_some.ensures own
 
 pub returns-in_default-clause-content : goal.returns-in_default-clause-content
 returns-in_default-clause-content c =
