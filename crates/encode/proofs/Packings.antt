@@ -2,8 +2,8 @@
 use Rattle.std.proofs.Common.{◌≡◌, ℕ, ◌+◌, ◌-◌, ◌<◌, ◌≤◌, List, [], ◌∷◌, ◌++◌, length, drop, Some, None, Ok, Err, sym, refl, ap, ◌∙◌, append_assoc, arith, length-drop}
 use borrow.Rule.Slice.PartMut.{put_mid}
 use Rattle.std.proofs.lemmas.List.{take_at, drop_at, drop-drop}
-use Rattle.std.proofs.lemmas.Bool.{cond-true, cond-false, le-leb, lt-leb}
-use Rattle.codes.specs.Refusals.{Returned, alone, placed}
+use Rattle.std.proofs.lemmas.Bool.{cond-true, le-leb}
+use Rattle.codes.specs.Refusals.{Returned, placed}
 use Rattle.messages.specs.Content.{Content, size}
 use Rattle.feed.specs.Items.{items}
 use Rattle.messages.specs.Verdict.{verdict}
@@ -50,12 +50,6 @@ put_next front part out a e is end =
     ∙ sym (append_assoc front part (drop e out))
 
 module _ (own out : List ℕ) (n : ℕ) (is : length own ≡ n) where
-  pub answer_short : length out < n → Err (alone 9) ≡ put_answer (length own) out
-  answer_short h = sym (cond-false _ _ _ (lt-leb (length own) (length out) (omega arith)))
-
-  pub out_short : length out < n → out ≡ put own out
-  out_short h = sym (cond-false _ _ _ (lt-leb (length own) (length out) (omega arith)))
-
   pub answer_whole : n ≤ length out → Ok n ≡ put_answer (length own) out
   answer_whole h = sym (cond-true _ _ _ (le-leb (length own) (length out) (omega arith)) ∙ ap Ok is)
 

@@ -37,9 +37,7 @@ impl Header {
         if raw.subscription != subscription {
             return Err(Refusal::OtherSubscription);
         }
-        let Ok(kind) = PacketType::try_from(raw.code) else {
-            return Err(Refusal::PacketType);
-        };
+        let kind = PacketType::try_from(raw.code).map_err(|_| Refusal::PacketType)?;
         let number = raw.last;
         if !is_good_number(kind, number) {
             return Err(Refusal::NumberOutOfRange);

@@ -41,9 +41,7 @@ impl FileHeader {
         }
         let [subscription] = field_at::<1>(bytes, 10)?;
         let [code] = field_at::<1>(bytes, 11)?;
-        let kind = KindCode::try_from(code)
-            .ok()
-            .ok_or(Refusal::BrokenFile(11))?;
+        let kind = KindCode::try_from(code).map_err(|_| Refusal::BrokenFile(11))?;
         let names = u32::from_be_bytes(field_at(bytes, 12)?);
         Ok(FileHeader {
             packets,

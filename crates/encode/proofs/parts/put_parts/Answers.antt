@@ -1,6 +1,6 @@
 use Rattle.std.proofs.Common.{◌≡◌, ℕ, ◌+◌, ◌-◌, List, ◌++◌, length, drop, refl, ap, ◌∙◌, arith, length-append}
 use borrow.Rule.Slice.PartMut.{put_mid}
-use Rattle.encode.proofs.Packings.{put_next, answer_short, out_short, answer_whole, out_whole}
+use Rattle.encode.proofs.Packings.{put_next, answer_whole, out_whole}
 use Rattle.encode.proofs.parts.put_parts.Goals as goal
 
 front_length : (header middle : List ℕ) → length header ≡ 8 → length (header ++ middle) ≡ 8 + length middle
@@ -8,15 +8,6 @@ front_length header middle eight = length-append header middle ∙ ap (λ n. n +
 
 own_length : (header middle tail : List ℕ) → length header ≡ 8 → length (header ++ middle ++ tail) ≡ 8 + length middle + length tail
 own_length header middle tail eight = length-append (header ++ middle) tail ∙ ap (λ n. n + length tail) (front_length header middle eight)
-
-pub returns-then-length-out : goal.returns-then-length-out
-returns-then-length-out c =
-    let header = c.args.header.now in
-    let middle = c.args.middle.now in
-    let tail = c.args.tail.now in
-    let out = c.args.out.now in
-    let own = own_length header middle tail (omega arith) in
-    record { answer = answer_short (header ++ middle ++ tail) out _ own c.if-length-out.true; after = out_short (header ++ middle ++ tail) out _ own c.if-length-out.true }
 
 pub returns : goal.returns
 returns c =

@@ -24,6 +24,6 @@ pub returns-in_err-raw : goal.returns-in_err-raw
 unfolding header_verdict
 returns-in_err-raw c = grind (arith, nat_tests)
 
-pub returns-in_default-clause-verdict : goal.returns-in_default-clause-verdict
+pub returns-in_err-kind-clause-verdict : goal.returns-in_err-kind-clause-verdict
 unfolding header_verdict
-returns-in_default-clause-verdict c = let h = header_is c.args.bytes.now c.in_ok-raw.raw (sym c.in_ok-raw.ensures.ok_part ∙ c.read.ensures) in search rules
+returns-in_err-kind-clause-verdict c = let h = header_is c.args.bytes.now c.in_ok-raw.raw (sym c.in_ok-raw.ensures.ok_part ∙ c.read.ensures) in search rules
