@@ -74,3 +74,30 @@ module _ (subscription : ℕ) (bytes : List ℕ) where
     pub message_other : (byte bytes 2 ≡ 113 → ⊥) → (byte bytes 2 ≡ 105 → ⊥) → (byte bytes 2 ≡ 118 → ⊥) → None ≡ message subscription bytes
     unfolding message
     message_other q i v = sym (cond-true _ _ _ (eq-eqb _ _ own) ∙ cond-false _ _ _ (ne_eqb _ _ q) ∙ cond-false _ _ _ (ne_eqb _ _ i) ∙ cond-false _ _ _ (ne_eqb _ _ v))
+
+-- what a message of a type comes to, by the header that was read
+module _ (subscription : ℕ) (bytes : List ℕ) (h : RawHeader) (read : Some h ≡ header_at_front bytes) where
+  pub of_other : (h.subscription ≡ subscription → ⊥) → None ≡ message subscription bytes
+  of_other other = message_elsewhere subscription bytes (λ e. other (ap (λ x. x.subscription) (header_is bytes h read) ∙ e))
+
+  module _ (own : h.subscription ≡ subscription) where
+    own_byte : byte bytes 3 ≡ subscription
+    own_byte = ap (λ x. x.subscription) (sym (header_is bytes h read)) ∙ own
+
+    pub of_no_type : (h.code ≡ 113 → ⊥) → (h.code ≡ 105 → ⊥) → (h.code ≡ 118 → ⊥) → None ≡ message subscription bytes
+    of_no_type q i v =
+        let code = ap (λ x. x.code) (header_is bytes h read) in
+        message_other subscription bytes own_byte (λ e. q (code ∙ e)) (λ e. i (code ∙ e)) (λ e. v (code ∙ e))
+
+    module _ (len code : ℕ) (in_own : List ℕ → Option Content) (typed : byte bytes 3 ≡ subscription → byte bytes 2 ≡ code → message subscription bytes ≡ cut len bytes in_own) (coded : h.code ≡ code) where
+      type_is : message subscription bytes ≡ cut len bytes in_own
+      type_is = typed own_byte (ap (λ x. x.code) (sym (header_is bytes h read)) ∙ coded)
+
+      said_is : h.length ≡ be16 bytes 0
+      said_is = ap (λ x. x.length) (header_is bytes h read)
+
+      pub none_of_type : (r : Option Message) → r ≡ None → None ≡ (if eqb h.length len && leb len (length bytes) then Some (take len bytes) else None) → option_map content r ≡ message subscription bytes
+      none_of_type r gives e = ap (option_map content) gives ∙ sym (type_is ∙ cut_none bytes len h.length said_is in_own e)
+
+      pub some_of_type : (own : List ℕ) (good : Bool) (m : Message) (r : Option Message) → Some own ≡ (if eqb h.length len && leb len (length bytes) then Some (take len bytes) else None) → r ≡ then_some good m → when good (content m) ≡ in_own own → option_map content r ≡ message subscription bytes
+      some_of_type own good m r e gives is = handed_out good m r gives ∙ is ∙ sym (type_is ∙ (cut_some bytes len h.length said_is in_own own e).0)
