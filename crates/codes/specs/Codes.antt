@@ -5,6 +5,8 @@ use Rattle.std.specs.Result.{result_ok}
 use Rattle.codes.specs.declared.unknown.UnknownCode.{UnknownCode}
 use Rattle.codes.specs.declared.packet.PacketType.{PacketType}
 use Rattle.codes.specs.declared.packet.PacketType.TheVariants as packet
+use Rattle.codes.specs.declared.message.MessageType.{MessageType}
+use Rattle.codes.specs.declared.message.MessageType.TheVariants as message
 use Rattle.codes.specs.declared.quote.Side.{Side}
 use Rattle.codes.specs.declared.quote.Side.TheVariants as side
 use Rattle.codes.specs.declared.quote.Level.{Level}
@@ -105,6 +107,14 @@ packet_code packet.Heartbeat = 66
 
 abbrev pub packet_types : List PacketType
 packet_types = packet.Messages ∷ packet.Heartbeat ∷ []
+
+abbrev pub message_code : MessageType → ℕ
+message_code message.Quote = 113
+message_code message.Imbalance = 105
+message_code message.Event = 118
+
+abbrev pub message_types : List MessageType
+message_types = message.Quote ∷ message.Imbalance ∷ message.Event ∷ []
 
 abbrev pub kind_code : KindCode → ℕ
 kind_code kind.Depth = 68

@@ -4,6 +4,7 @@
 pub mod auction;
 pub mod event;
 pub mod kind;
+pub mod message;
 pub mod packet;
 pub mod quote;
 pub mod refusal;

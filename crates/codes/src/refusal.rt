@@ -35,7 +35,7 @@ pub enum Refusal {
 }
 
 impl Refusal {
-    // The returned number, 1 to 15: what callers and manuals know a refusal by, and no code in the enum's place.
+    // The returned number, 1 to 15: callers and manuals know a refusal by it.
     pub fn number(self) -> u8
         ensures { result ≡ number_of (returned self) }
     {

@@ -10,6 +10,11 @@ use std::fmt;
 #[derive(Drop)]
 pub struct Shown<T>(pub T);
 
+// The letter of a code.
+fn letter<C: Into<u8>>(code: C) -> char {
+    char::from(code.into())
+}
+
 // A symbol without the nulls after it.
 impl fmt::Display for Shown<Symbol> {
     fn fmt<W: fmt::Write>(&self, f: &mut fmt::Formatter<W>) -> fmt::Result {
@@ -31,7 +36,7 @@ impl fmt::Display for Shown<FileHeader> {
             kind,
             ..
         } = self.0;
-        let kind = char::from(u8::from(kind));
+        let kind = letter(kind);
         write!(
             f,
             "subscription {subscription} kind {kind} packets {packets} symbols {symbols}"
@@ -46,7 +51,7 @@ impl fmt::Display for Shown<Header> {
             subscription,
             number,
         } = self.0;
-        let kind = char::from(u8::from(kind));
+        let kind = letter(kind);
         write!(f, "{kind} subscription {subscription} number {number}")
     }
 }
@@ -74,7 +79,7 @@ impl fmt::Display for Shown<QuoteFields> {
             price,
         } = self.0;
         let symbol = Shown(symbol);
-        let side = char::from(u8::from(side));
+        let side = letter(side);
         let insert = u8::from(insert);
         let delete = u8::from(delete);
         write!(
@@ -99,7 +104,7 @@ impl fmt::Display for Shown<ImbalanceFields> {
             market,
         } = self.0;
         let symbol = Shown(symbol);
-        let auction = char::from(u8::from(auction));
+        let auction = letter(auction);
         write!(
             f,
             "imbalance stamp {stamp} number {number} symbol {symbol} auction {auction} time {time} \
@@ -118,14 +123,14 @@ impl fmt::Display for Shown<EventFields> {
                 code,
             } => {
                 let symbol = Shown(symbol);
-                let code = char::from(u8::from(code));
+                let code = letter(code);
                 write!(
                     f,
                     "event stamp {stamp} number {number} symbol {symbol} code {code}"
                 )
             }
             EventForm::Underlying(code) => {
-                let code = char::from(u8::from(code));
+                let code = letter(code);
                 write!(f, "underlying stamp {stamp} code {code}")
             }
             EventForm::Reset => write!(f, "reset stamp {stamp}"),

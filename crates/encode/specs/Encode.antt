@@ -1,9 +1,7 @@
 -- The bytes of a message, field after field, reserved bytes as null.
 use Rattle.std.specs.Prelude.{ℕ, ◌/◌, ◌%◌, Bool, true, ◌&&◌, List, [], ◌∷◌, ◌++◌, replicate, nat_le}
 use Rattle.codes.specs.Codes.{side_code, level_number, auction_code, event_byte, reset_byte}
-use Rattle.codes.specs.declared.event.EventCode.{EventCode}
-use Rattle.codes.specs.declared.event.EventCode.TheVariants as both
-use Rattle.messages.specs.Content.{Content, quote, imbalance, event}
+use Rattle.messages.specs.Content.{Content, quote, imbalance, event, form_code}
 use Rattle.messages.specs.Verdict.{nameable}
 use Rattle.messages.specs.declared.fields.QuoteFields.{QuoteFields}
 use Rattle.messages.specs.declared.fields.ImbalanceFields.{ImbalanceFields}
@@ -46,11 +44,6 @@ abbrev pub form_named : EventForm → List ℕ
 form_named (Numbered number symbol code) = named_bytes number symbol
 form_named (Underlying code) = nulls 32
 form_named Reset = nulls 32
-
-abbrev pub form_code : EventForm → EventCode
-form_code (Numbered number symbol code) = both.Series code
-form_code (Underlying code) = both.Underlying code
-form_code Reset = both.Reset
 
 abbrev pub form_tail : EventForm → List ℕ
 form_tail f = 0 ∷ 0 ∷ event_byte (form_code f) ∷ reset_byte (form_code f) ∷ []

@@ -8,6 +8,7 @@ ghost use Rattle.encode.specs.Writing.{Wrote};
 
 use crate::parts::{Parts, header_bytes, named_bytes, put_parts};
 use codes::event::EventCode;
+use codes::message::MessageType;
 use codes::refusal::Refusal;
 use messages::fields::{EventFields, EventForm, ImbalanceFields, LATEST_TIME, QuoteFields};
 use messages::symbol::is_nameable;
@@ -61,11 +62,7 @@ fn form_named(form: EventForm) -> [u8; 32]
 fn form_tail(form: EventForm) -> [u8; 4]
     ensures { result ≡ form_tail form }
 {
-    let (event, reset) = <(u8, u8)>::from(match form {
-        EventForm::Numbered { code, .. } => EventCode::Series(code),
-        EventForm::Underlying(code) => EventCode::Underlying(code),
-        EventForm::Reset => EventCode::Reset,
-    });
+    let (event, reset) = <(u8, u8)>::from(EventCode::from(form));
     [0, 0, event, reset]
 }
 
@@ -94,7 +91,7 @@ impl Written<12> for QuoteFields {
     #[tactic(auto, using(crate::proofs::Packings::same_parts), unfolding(crate::specs::Encode::encoded))]
     fn parts(&self, subscription: u8) -> Parts<12> {
         Parts {
-            header: header_bytes(52, b'q', subscription, self.stamp),
+            header: header_bytes(52, u8::from(MessageType::Quote), subscription, self.stamp),
             named: named_bytes(self.number, self.symbol),
             tail: quote_tail(*self),
         }
@@ -112,7 +109,12 @@ impl Written<20> for ImbalanceFields {
     #[tactic(auto, using(crate::proofs::Packings::same_parts), unfolding(crate::specs::Encode::encoded))]
     fn parts(&self, subscription: u8) -> Parts<20> {
         Parts {
-            header: header_bytes(60, b'i', subscription, self.stamp),
+            header: header_bytes(
+                60,
+                u8::from(MessageType::Imbalance),
+                subscription,
+                self.stamp,
+            ),
             named: named_bytes(self.number, self.symbol),
             tail: imbalance_tail(*self),
         }
@@ -133,14 +135,16 @@ impl Written<4> for EventFields {
     #[tactic(auto, using(crate::proofs::Packings::same_parts), unfolding(crate::specs::Encode::encoded))]
     fn parts(&self, subscription: u8) -> Parts<4> {
         Parts {
-            header: header_bytes(44, b'v', subscription, self.stamp),
+            header: header_bytes(44, u8::from(MessageType::Event), subscription, self.stamp),
             named: form_named(self.form),
             tail: form_tail(self.form),
         }
     }
 }
 
-// Writes a message of any type. Refusals: 5 at 0 for fields that no bytes can carry, then 9.
+// Writes a message of any type. Refusals: 5 at 0 for fields that no bytes can carry, then 9. (Writers take subscription
+// and buffer as they come: each call writes at the front of a buffer of its own, so a struct of the two would be made
+// anew for each.)
 fn write_fields<F: Written<TAIL>, const TAIL: usize>(
     fields: &F,
     subscription: u8,
@@ -159,6 +163,9 @@ fn write_fields<F: Written<TAIL>, const TAIL: usize>(
     } = fields.parts(subscription);
     put_parts(&header, &named, &tail, out)
 }
+
+// The public calls are a line each, since their contracts say which content is written, and must not rest on a ghost
+// member.
 
 // Writes a quote of 52 bytes. Refusals: 5 at 0 for a number or a symbol that cannot be, then 9.
 pub fn write_quote(fields: &QuoteFields, subscription: u8, out: &mut [u8]) -> Result<usize, Refusal>

@@ -32,6 +32,7 @@ pub(crate) fn named_bytes(number: u32, symbol: Symbol) -> [u8; 32]
 }
 
 // The parts of a message, one behind the other: its header, its bytes from 8 to 39, and the TAIL bytes from 40 on.
+// Taken apart at once, so nobody compares or prints it.
 #[derive(Clone, Copy)]
 pub(crate) struct Parts<const TAIL: usize> {
     pub(crate) header: [u8; 8],

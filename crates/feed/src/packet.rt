@@ -70,14 +70,15 @@ fn is_good_body(kind: PacketType, len: usize) -> bool
     }
 }
 
-// 8 to 8,192 bytes, as the length field says.
-fn is_good_length(said: u16, len: usize) -> bool
+// Whether a packet can have so many bytes: 8 to 8,192, as its length field says.
+pub fn is_good_length(said: u16, len: usize) -> bool
     ensures { result ≡ good_length said len }
 {
     len >= HEADER_SIZE && len <= LONGEST_PACKET && said as usize == len
 }
 
-// A packet on the subscription that it was read for, without looking at its messages yet.
+// A packet on the subscription that it was read for, without looking at its messages yet. (Nobody compares or prints a
+// packet as a whole, so it derives no more.)
 #[derive(Clone, Copy)]
 pub struct Packet<'a> {
     header: Header,
@@ -136,7 +137,8 @@ impl<'a> Packet<'a> {
     }
 }
 
-// What is left of a packet's messages.
+// What is left of a packet's messages: a place in the packet, and not the rest alone, since each message is handed out
+// with its offset.
 #[derive(Drop)]
 pub struct Messages<'a> {
     packet: &'a [u8],

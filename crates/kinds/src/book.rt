@@ -38,7 +38,7 @@ pub struct FiveLevels {
     pub ghost five: { length levels ≡ 5 },
 }
 
-// No level on the side.
+// No level on the side. (A derive knows nothing of a ghost field.)
 impl Default for FiveLevels {
     ghost is_default = { λ side. side.levels ≡ replicate 5 no_level };
 

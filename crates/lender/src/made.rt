@@ -11,7 +11,7 @@ pub(crate) const WATCHED: Symbol = *b"MSQAJ\0\0\0";
 
 pub(crate) const OTHER: Symbol = *b"MSQAK\0\0\0";
 
-// A value, or the returned number with its offset or index.
+// A value, or the returned number with its offset or index. (`scenarios` has the same for its tests.)
 pub(crate) fn told<T>(answer: Result<T, Refusal>) -> Result<T, (u8, Option<usize>)> {
     answer.map_err(|refusal| (refusal.number(), refusal.place()))
 }

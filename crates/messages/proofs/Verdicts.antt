@@ -1,11 +1,15 @@
 -- What the verdict comes to at each type of message, from the header and the message's own bytes.
-use Rattle.std.proofs.Common.{◌≡◌, ℕ, ◌<◌, ◌≤◌, Bool, true, false, cond, if◌then◌else◌, ◌&&◌, eqb, leb, List, length, take, Some, None, Option, sym, refl, ap, ◌∙◌, arith}
+use Rattle.std.proofs.Common.{◌≡◌, ℕ, ◌<◌, ◌≤◌, Bool, true, false, cond, if◌then◌else◌, ◌&&◌, eqb, leb, List, length, take, IfSome, Some, None, Option, sym, refl, ap, ◌∙◌, arith}
 use Rattle.std.proofs.lemmas.Bool.{cond-true, cond-false, eq-eqb, ne_eqb, le-leb, and_from}
 use Rattle.std.proofs.lemmas.Bool.Decides.{nat_tests}
-use Rattle.messages.specs.Content.{Content}
-use Rattle.messages.specs.Messages.{content}
+use Rattle.messages.specs.Content.{Content, size}
+use Rattle.messages.specs.Messages.{content, own_bytes}
 use Rattle.messages.specs.Verdict.{message, cut, when, quote_in, imbalance_in, event_in}
 use Rattle.messages.specs.Wire.{byte, be16}
+use Rattle.codes.specs.Codes.{coded, message_code, message_types}
+use Rattle.codes.specs.declared.message.MessageType.{MessageType}
+use Rattle.codes.specs.declared.message.MessageType.TheVariants.{Quote, Imbalance, Event}
+use Rattle.codes.proofs.Cases.{coded_is}
 use Rattle.messages.specs.Header.{header_in, header_at_front}
 use Rattle.messages.specs.declared.header.RawHeader.{RawHeader}
 use Rattle.messages.specs.declared.message.Message.{Message}
@@ -41,6 +45,11 @@ pub handed_out : (good : Bool) (m : Message) (r : Option Message) → r ≡ then
 handed_out true m r e = ap (option_map content) e
 handed_out false m r e = ap (option_map content) e
 
+pub handed_own : (bytes : List ℕ) (good : Bool) (m : Message) (r : Option Message) → r ≡ then_some good m → own_bytes m ≡ take (size (content m)) bytes → IfSome r (λ m. own_bytes m ≡ take (size (content m)) bytes)
+handed_own bytes good m None e own = tt
+handed_own bytes true m (Some k) e own = let same : k ≡ m = cc in ap own_bytes same ∙ own ∙ ap (λ m. take (size (content m)) bytes) (sym same)
+handed_own bytes false m (Some k) e own = absurd cc
+
 pub header_is : (bytes : List ℕ) (h : RawHeader) → Some h ≡ header_at_front bytes → h ≡ header_in bytes
 header_is bytes h e = by (leb 8 (length bytes)) e
   where
@@ -75,6 +84,13 @@ module _ (subscription : ℕ) (bytes : List ℕ) where
     unfolding message
     message_other q i v = sym (cond-true _ _ _ (eq-eqb _ _ own) ∙ cond-false _ _ _ (ne_eqb _ _ q) ∙ cond-false _ _ _ (ne_eqb _ _ i) ∙ cond-false _ _ _ (ne_eqb _ _ v))
 
+-- the code that a type was read from
+pub typed_code : (code : ℕ) (read : Option MessageType) (is t : MessageType) → read ≡ coded message_code message_types code → Some is ≡ read → is ≡ t → code ≡ message_code t
+typed_code code read is t reads some same = coded_is message_code message_types code t (sym reads ∙ sym some ∙ ap Some same)
+
+untyped : (code : ℕ) (read : Option MessageType) (t : MessageType) → read ≡ coded message_code message_types code → None ≡ read → coded message_code message_types (message_code t) ≡ Some t → code ≡ message_code t → ⊥
+untyped code read t reads none back is = let z = none ∙ reads ∙ ap (coded message_code message_types) is ∙ back in absurd cc
+
 -- what a message of a type comes to, by the header that was read
 module _ (subscription : ℕ) (bytes : List ℕ) (h : RawHeader) (read : Some h ≡ header_at_front bytes) where
   pub of_other : (h.subscription ≡ subscription → ⊥) → None ≡ message subscription bytes
@@ -84,10 +100,14 @@ module _ (subscription : ℕ) (bytes : List ℕ) (h : RawHeader) (read : Some h 
     own_byte : byte bytes 3 ≡ subscription
     own_byte = ap (λ x. x.subscription) (sym (header_is bytes h read)) ∙ own
 
-    pub of_no_type : (h.code ≡ 113 → ⊥) → (h.code ≡ 105 → ⊥) → (h.code ≡ 118 → ⊥) → None ≡ message subscription bytes
-    of_no_type q i v =
+    pub of_no_type : (read_type : Option MessageType) → read_type ≡ coded message_code message_types h.code → None ≡ read_type → (r : Option Message) → r ≡ None → option_map content r ≡ message subscription bytes
+    of_no_type read_type reads none r gives =
         let code = ap (λ x. x.code) (header_is bytes h read) in
-        message_other subscription bytes own_byte (λ e. q (code ∙ e)) (λ e. i (code ∙ e)) (λ e. v (code ∙ e))
+        ap (option_map content) gives
+        ∙ message_other subscription bytes own_byte
+        (λ e. untyped h.code read_type Quote reads none refl (code ∙ e))
+        (λ e. untyped h.code read_type Imbalance reads none refl (code ∙ e))
+        (λ e. untyped h.code read_type Event reads none refl (code ∙ e))
 
     module _ (len code : ℕ) (in_own : List ℕ → Option Content) (typed : byte bytes 3 ≡ subscription → byte bytes 2 ≡ code → message subscription bytes ≡ cut len bytes in_own) (coded : h.code ≡ code) where
       type_is : message subscription bytes ≡ cut len bytes in_own

@@ -1,7 +1,10 @@
 // What each message says, field by field: what is read from a message, and what one is written from.
+ghost use Rattle.std.specs.Prelude.{◌≡◌};
+ghost use Rattle.messages.specs.Content.{form_code};
+
 use crate::symbol::Symbol;
 use codes::auction::Auction;
-use codes::event::{SeriesEvent, UnderlyingEvent};
+use codes::event::{EventCode, SeriesEvent, UnderlyingEvent};
 use codes::quote::{Level, Side};
 
 // The levels of one side change: the delete level goes, then this one comes in as the insert level.
@@ -56,4 +59,17 @@ pub enum EventForm {
     Underlying(UnderlyingEvent),
     // It stands at the front of packet 1, which starts a session.
     Reset,
+}
+
+// Which event it is, by its two codes.
+impl From<EventForm> for EventCode {
+    ghost from_gives = { λ form code. code ≡ form_code form };
+
+    fn from(form: EventForm) -> EventCode {
+        match form {
+            EventForm::Numbered { code, .. } => EventCode::Series(code),
+            EventForm::Underlying(code) => EventCode::Underlying(code),
+            EventForm::Reset => EventCode::Reset,
+        }
+    }
 }

@@ -14,7 +14,8 @@ use codes::auction::Auction;
 use codes::event::EventCode;
 use codes::quote::{Level, Side};
 
-// A message of a type whose messages have LEN bytes, by those bytes.
+// A message of a type whose messages have LEN bytes, by those bytes. (A derived equality of arrays of any LEN would ask
+// a bound on LEN of every user.)
 #[derive(Clone, Copy)]
 pub struct Own<'a, const LEN: usize> {
     pub(crate) bytes: &'a [u8; LEN],

@@ -14,6 +14,7 @@ use crate::numbers::{part, u32_at};
 use crate::symbol::is_nameable;
 use codes::auction::Auction;
 use codes::event::EventCode;
+use codes::message::MessageType;
 use codes::quote::{Level, Side};
 use codes::refusal::Refusal;
 
@@ -71,20 +72,21 @@ fn first_message(bytes: &[u8], subscription: u8) -> Option<Message<'_>>
     if header.subscription != subscription {
         return None;
     }
-    match header.code {
-        b'q' => {
+    // Three arms of two lines: one generic call would take the test and the case as functions, and its contract say of
+    // them what the arms do.
+    match MessageType::try_from(header.code).ok()? {
+        MessageType::Quote => {
             let quote: Quote = cut(bytes, header.length)?;
             is_good_quote(quote.bytes).then_some(Message::Quote(quote))
         }
-        b'i' => {
+        MessageType::Imbalance => {
             let imbalance: Imbalance = cut(bytes, header.length)?;
             is_good_imbalance(imbalance.bytes).then_some(Message::Imbalance(imbalance))
         }
-        b'v' => {
+        MessageType::Event => {
             let event: Event = cut(bytes, header.length)?;
             is_good_event(event.bytes).then_some(Message::Event(event))
         }
-        _ => None,
     }
 }
 

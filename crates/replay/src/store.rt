@@ -3,8 +3,9 @@ ghost use Rattle.std.specs.Prelude.{◌≡◌, ℕ, List, length, Option};
 ghost use Rattle.codes.specs.Refusals.{answered};
 ghost use Rattle.replay.specs.Stores.{Shaped, fetchable, fetch_verdict, fetched_into, carries};
 
+use codes::packet::PacketType;
 use codes::refusal::Refusal;
-use feed::packet::LONGEST_PACKET;
+use feed::packet::{LONGEST_PACKET, is_good_length};
 use messages::header::RawHeader;
 use messages::numbers::in_range;
 
@@ -47,7 +48,8 @@ pub fn check_fetch(number: u32, room: usize) -> Result<(), Refusal>
     Ok(())
 }
 
-// Whether bytes are an M packet on a subscription that carries a number.
+// Whether bytes are an M packet on a subscription that carries a number. The number is looked at first: in a search it
+// is what most packets differ in.
 pub fn is_packet(bytes: &[u8], subscription: u8, number: u32) -> bool
     ensures { result ≡ carries subscription number bytes.now }
 {
@@ -55,9 +57,8 @@ pub fn is_packet(bytes: &[u8], subscription: u8, number: u32) -> bool
         return false;
     };
     header.last == number
-        && header.code == b'M'
+        && PacketType::try_from(header.code) == Ok(PacketType::Messages)
         && header.subscription == subscription
-        && bytes.len() <= LONGEST_PACKET
-        && header.length as usize == bytes.len()
+        && is_good_length(header.length, bytes.len())
         && in_range(number)
 }

@@ -1,7 +1,8 @@
 // Three messages, byte by byte, and an answer by its returned number.
 use codes::refusal::Refusal;
 
-// A value, or the returned number with its offset or index.
+// A value, or the returned number with its offset or index. (`lender` has the same for its tests: a crate of tests for
+// this alone would be no plainer.)
 pub(crate) fn told<T>(answer: Result<T, Refusal>) -> Result<T, (u8, Option<usize>)> {
     answer.map_err(|refusal| (refusal.number(), refusal.place()))
 }

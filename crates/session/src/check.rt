@@ -57,7 +57,7 @@ fn check<K: Kind>(packet: Packet, waiting: bool) -> Result<(), Refusal>
     Ok(())
 }
 
-// A packet that the checks let through.
+// A packet that the checks let through. (It lives within a delivery, where nobody compares or prints it.)
 #[derive(Clone, Copy)]
 pub(crate) struct Checked<'a> {
     pub(crate) packet: Packet<'a>,

@@ -18,14 +18,11 @@ impl Progress {
         ensures top { result.top ≡ max self.top checked.entry.packet.header.number }
     {
         let number = checked.packet.header().number;
-        Progress {
-            next: if number == self.next {
-                self.next + 1
-            } else {
-                self.next
-            },
-            top: self.top.max(number),
+        let mut after = self.heard(checked);
+        if number == self.next {
+            after.next += 1;
         }
+        after
     }
 
     // After a heartbeat.

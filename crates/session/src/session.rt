@@ -112,6 +112,9 @@ impl<'a, K: Kind> Session<'a, K> {
         self.stamp.is_none()
     }
 
+    // (`same` stands at each call that makes or changes a session: no ghost field can speak of the borrow that a session
+    // had before a call, and without it a lender knows nothing of its slots afterwards.)
+    //
     // Takes one packet, whole or not at all: how many of its messages moved a last number, or the refusal, 1 to 8, of
     // the uppermost row that is met; then nothing has changed. It holds the same borrow of the lender's slots.
     #[tactic(auto, unfolding(runs::specs::States::delivered))]

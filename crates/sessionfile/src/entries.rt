@@ -54,7 +54,8 @@ impl<'a> Iterator for Entries<'a> {
 
     ghost remaining = { item_count pending };
 
-    // An index of its own: a range would pass over an offset that points at no packet, and nothing may come after None.
+    // An index of its own, which steps only past an offset that points at a packet: nothing comes after None. A range
+    // steps past any, and would have to be put back.
     fn next(&mut self) -> Option<&'a [u8]> {
         if self.next >= self.packets {
             return None;

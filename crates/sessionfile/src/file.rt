@@ -15,7 +15,8 @@ use replay::store::{ReplayStore, is_packet};
 // The length of a symbol's field.
 const SYMBOL_SIZE: usize = 8;
 
-// A file that was opened: its header was read, and no field of it is at fault.
+// A file that was opened: its header was read, and no field of it is at fault. (Nobody compares or prints a file as a
+// whole, so it derives no more.)
 #[derive(Clone, Copy)]
 pub struct SessionFile<'a> {
     bytes: &'a [u8],
@@ -74,7 +75,8 @@ impl<'a> SessionFile<'a> {
     }
 }
 
-// The checks take a file's bytes and header: a SessionFile, which has both, is made only once they have passed.
+// The checks take a file's bytes and header: a SessionFile, which has both, is made only once they have passed, and a
+// struct for two values in three functions would be no plainer.
 
 // Whether each packet offset points at a packet, else refusal 13 at the first that does not.
 fn check_packets(bytes: &[u8], header: FileHeader) -> Result<(), Refusal>

@@ -45,6 +45,7 @@ fn offer<K: Kind>(
     ensures after { watchings K.Kind.shows slots.new ≡ offered K.Kind.meaning (record { symbol = symbol.entry.now; number = number; content = content message.now }) (watchings K.Kind.shows slots.old) }
     ensures answer { result ≡ moves K.Kind.meaning (record { symbol = symbol.entry.now; number = number; content = content message.now }) (watchings K.Kind.shows slots.old) }
 {
+    // A `match`: a closure that changes the slots says nothing of them afterwards.
     match find(slots, symbol) {
         Some(i) => take::<K>(&mut slots[i], number, message),
         None => false,
@@ -63,8 +64,8 @@ fn feed<K: Kind>(slots: &mut [Slot<K::Record>], message: &Message) -> bool
     offer::<K>(slots, &name.1, name.0, message)
 }
 
-// The messages of a packet, in order; how many moved a last number. A loop: of a chain whose closure changes the slots
-// at each message a proof knows nothing.
+// The messages of a packet, in order; how many moved a last number. A loop: with a chain
+// of `map_while`, `filter` and `count`, whose closure changes the slots, neither clause was proved.
 pub fn feed_all<K: Kind>(slots: &mut [Slot<K::Record>], packet: Packet) -> usize
     ensures after { watchings K.Kind.shows slots.new ≡ fed K.Kind.meaning (watchings K.Kind.shows slots.old) (contents_of (packet_items packet.entry)) }
     ensures answer { result ≡ moved K.Kind.meaning (watchings K.Kind.shows slots.old) (contents_of (packet_items packet.entry)) }

@@ -7,15 +7,16 @@ ghost use Rattle.messages.specs.Wire.{be16};
 ghost use Rattle.replay.specs.Stores.{holding};
 
 use crate::cell::{CELL, packet_in};
+use codes::packet::PacketType;
 use codes::refusal::Refusal;
-use feed::packet::LONGEST_PACKET;
+use feed::packet::is_good_length;
 use messages::header::RawHeader;
 use messages::numbers::in_range;
 use replay::store::{ReplayStore, is_packet};
 
 const MOST_CELLS: usize = 64;
 
-// The packets last kept, each at the front of a cell of the area; the cells are a ring. Number and length of a packet
+// The packets last kept, each at the front of a cell of the area; the cells are a ring over the memory that is lent. Number and length of a packet
 // are read from its bytes.
 #[derive(Drop)]
 pub struct Window<'a> {
@@ -61,6 +62,8 @@ impl<'a> Window<'a> {
         }
     }
 
+    // (`lent`, the same borrow as before, stands at each call: no ghost field can speak of what a window was before one.)
+    //
     // Adds an M packet of the window's subscription, in the place of the earliest one where no cell is free; a number
     // already held stays as it is. Refusals 1, 2, 3 (not M) and 4, in this order, change nothing. Messages are not read.
     pub fn keep(&mut self, packet: &[u8]) -> Result<(), Refusal>
@@ -128,13 +131,13 @@ impl<'a> Window<'a> {
         ensures { answered (λ n. n) result ≡ keepable self.now.subscription packet.now }
     {
         let header = RawHeader::read(packet).ok_or(Refusal::PacketLength)?;
-        if packet.len() > LONGEST_PACKET || header.length as usize != packet.len() {
+        if !is_good_length(header.length, packet.len()) {
             return Err(Refusal::PacketLength);
         }
         if header.subscription != self.subscription {
             return Err(Refusal::OtherSubscription);
         }
-        if header.code != b'M' {
+        if PacketType::try_from(header.code) != Ok(PacketType::Messages) {
             return Err(Refusal::PacketType);
         }
         if !in_range(header.last) {
