@@ -1,4 +1,5 @@
 pub mod Symbols
+pub mod Lists
 pub mod Verdicts
 pub mod Layouts
 pub mod Readings

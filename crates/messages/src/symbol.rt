@@ -1,13 +1,16 @@
 // Option symbols: 1 to 8 bytes from 33 to 126, and then nulls to the end of the field.
-ghost use Rattle.std.specs.Prelude.{◌≡◌, true, ◌↔◌, length, ◌==◌};
+ghost use Rattle.std.specs.Prelude.{◌≡◌, true, ◌↔◌, [], length, ◌==◌};
 ghost use Rattle.std.specs.List.{list_all, take_while};
 ghost use Rattle.messages.specs.Layout.{Symbol as SymbolField};
-ghost use Rattle.messages.specs.Symbols.{printable, padded, well_formed};
+ghost use Rattle.messages.specs.Symbols.{printable, padded, well_formed, bad_from};
 ghost use Rattle.messages.specs.Verdict.{nameable};
 
 use crate::numbers::in_range;
 
 pub type Symbol = [u8; 8];
+
+// The most symbols that a list may have.
+pub const MOST_SYMBOLS: usize = 1_024;
 
 fn is_printable(byte: u8) -> bool
     ensures { result ≡ printable byte }
@@ -59,4 +62,12 @@ pub fn is_nameable(number: u32, symbol: &Symbol) -> bool
     ensures { result ≡ nameable number symbol.now }
 {
     in_range(number) && is_symbol(symbol)
+}
+
+// The index of the first symbol that is malformed, or stands before it too.
+pub fn first_bad(symbols: &[Symbol]) -> Option<usize>
+    ensures { result ≡ bad_from [] 0 symbols.now }
+{
+    symbols.iter().enumerate().position(|(i, symbol)| !is_well_formed(symbol)
+        || symbols[..i].contains(symbol))
 }

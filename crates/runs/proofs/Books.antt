@@ -6,7 +6,7 @@ use Rattle.messages.specs.Content.{Content}
 use Rattle.kinds.specs.Meaning.{Meaning}
 use Rattle.runs.specs.Taking.{Numbered, Slot, numbered, fresh, taken}
 use Rattle.runs.specs.Watching.{Watched, renewed, offered, offered_if, fed}
-use Rattle.runs.specs.WatchLists.{among}
+use Rattle.messages.specs.Symbols.{among}
 use Rattle.runs.specs.Publisher.{also, numbered_in, of_series}
 use Rattle.runs.proofs.Series.{after}
 use Rattle.runs.proofs.Symbols.{same_true, not_same}

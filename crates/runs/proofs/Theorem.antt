@@ -9,7 +9,7 @@ use Rattle.codes.specs.Refusals.{Returned, alone}
 use Rattle.kinds.specs.Meaning.{Meaning}
 use Rattle.runs.specs.Taking.{Numbered, Slot, taken, fresh}
 use Rattle.runs.specs.Watching.{Watched}
-use Rattle.runs.specs.WatchLists.{among}
+use Rattle.messages.specs.Symbols.{among}
 use Rattle.runs.specs.States.{Packet, State, View, view, view_of, looked, stamp_of, starts_over, starts, readied, arrived}
 use Rattle.runs.specs.Publisher.{In, Honest, messages_of, of_series, within, published}
 use Rattle.runs.specs.Runs.{Arrival, packet, heartbeat, brought, watch_list, Run, begun, deliver, hear, History, highest, Truth, Shows, LookLaw}

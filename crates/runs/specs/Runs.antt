@@ -5,7 +5,7 @@ use Rattle.feed.specs.Layout.{LaidPacket, LaidHeartbeat}
 use Rattle.kinds.specs.Meaning.{Meaning}
 use Rattle.runs.specs.Taking.{Numbered, takes}
 use Rattle.runs.specs.Watching.{Watched}
-use Rattle.runs.specs.WatchLists.{among}
+use Rattle.messages.specs.Symbols.{among}
 use Rattle.runs.specs.States.{Packet, State, View, starts, arrived, heard, looked}
 use Rattle.runs.specs.Publisher.{In, Honest, messages_of, of_series, published}
 

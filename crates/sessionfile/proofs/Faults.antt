@@ -11,10 +11,10 @@ use Rattle.codes.specs.Refusals.{Returned}
 use Rattle.codes.specs.declared.kind.KindCode.{KindCode}
 use Rattle.codes.specs.declared.kind.KindCode.TheVariants.{Depth, Top, Imbalance}
 use Rattle.codes.proofs.Cases.{coded_is}
-use Rattle.messages.specs.Symbols.{well_formed}
+use Rattle.messages.specs.Symbols.{well_formed, among}
 use Rattle.messages.specs.Wire.{byte, be16, be32, part}
 use Rattle.messages.proofs.Symbols.{symbol_passes, symbol_from}
-use Rattle.sessionfile.specs.Files.{Field, field, header_fields, packet_starts, packet_offset, packet_offsets, symbol_at, symbols_of, is_in, symbol_field, symbol_fields, sound, first_fault, fault, unless, header_of, file_verdict}
+use Rattle.sessionfile.specs.Files.{Field, field, header_fields, packet_starts, packet_offset, packet_offsets, symbol_at, symbols_of, symbol_field, symbol_fields, sound, first_fault, fault, unless, header_of, file_verdict}
 use Rattle.sessionfile.specs.Layout.{PacketOffset, SymbolField, WellFormed}
 use Rattle.sessionfile.specs.declared.header.FileHeader.{FileHeader}
 
@@ -64,16 +64,16 @@ apart s t h = by (bytes_eq s t) refl
     by false e = e
 
 module _ (symbol : List ℕ) (at : ℕ → List ℕ) where
-  in_none : (a n : ℕ) → is_in symbol (map at (range_with_len a n)) ≡ false → (i : ℕ) → a ≤ i → i < a + n → at i ≡ symbol → ⊥
+  in_none : (a n : ℕ) → among symbol (map at (range_with_len a n)) ≡ false → (i : ℕ) → a ≤ i → i < a + n → at i ≡ symbol → ⊥
   in_none a zero h i low high e = omega arith
   in_none a (suc n) h i low high e =
-      let p = or_parts (bytes_eq (at a) symbol) (is_in symbol (map at (range_with_len (a + 1) n))) h in
+      let p = or_parts (bytes_eq (at a) symbol) (among symbol (map at (range_with_len (a + 1) n))) h in
       elim (cases_eq a i) [ inl same ↦ differs (at a) symbol p.0 (ap at same ∙ e) | inr ne ↦ in_none (a + 1) n p.1 i (omega arith) (omega arith) e ]
 
-  none_in : (a n : ℕ) → ((i : ℕ) → a ≤ i → i < a + n → at i ≡ symbol → ⊥) → is_in symbol (map at (range_with_len a n)) ≡ false
+  none_in : (a n : ℕ) → ((i : ℕ) → a ≤ i → i < a + n → at i ≡ symbol → ⊥) → among symbol (map at (range_with_len a n)) ≡ false
   none_in a zero h = refl
   none_in a (suc n) h =
-      ap (λ (b : Bool). b || is_in symbol (map at (range_with_len (a + 1) n))) (apart (at a) symbol (h a (omega arith) (omega arith)))
+      ap (λ (b : Bool). b || among symbol (map at (range_with_len (a + 1) n))) (apart (at a) symbol (h a (omega arith) (omega arith)))
       ∙ none_in (a + 1) n (λ i low high. h i (omega arith) (omega arith))
 
 -- the kind
@@ -148,16 +148,16 @@ module _ (file : List ℕ) where
       symbol_entry : (i : ℕ) → sound file (symbol_field file (be32 file 12) i) ≡ true → SymbolField file (be32 file 12 + 8 * i)
       symbol_entry i h =
           let place = be32 file 12 + 8 * i in
-          let a = and_parts (leb (place + 8) (length file)) (well_formed (part file place 8) && not (is_in (part file place 8) (symbols_of file (be32 file 12) i))) h in
-          let b = and_parts (well_formed (part file place 8)) (not (is_in (part file place 8) (symbols_of file (be32 file 12) i))) a.1 in
+          let a = and_parts (leb (place + 8) (length file)) (well_formed (part file place 8) && not (among (part file place 8) (symbols_of file (be32 file 12) i))) h in
+          let b = and_parts (well_formed (part file place 8)) (not (among (part file place 8) (symbols_of file (be32 file 12) i))) a.1 in
           let inside : place + 8 ≤ length file = leb-true _ _ a.0 in
           record { inside = inside; symbol = symbol_from (part file place 8) (length-take-le 8 (drop place file) (omega (arith, length-drop place file))) b.0 }
 
-      symbol_apart : (i : ℕ) → sound file (symbol_field file (be32 file 12) i) ≡ true → is_in (symbol_at file (be32 file 12) i) (symbols_of file (be32 file 12) i) ≡ false
+      symbol_apart : (i : ℕ) → sound file (symbol_field file (be32 file 12) i) ≡ true → among (symbol_at file (be32 file 12) i) (symbols_of file (be32 file 12) i) ≡ false
       symbol_apart i h =
           let place = be32 file 12 + 8 * i in
-          let a = and_parts (leb (place + 8) (length file)) (well_formed (part file place 8) && not (is_in (part file place 8) (symbols_of file (be32 file 12) i))) h in
-          let b = and_parts (well_formed (part file place 8)) (not (is_in (part file place 8) (symbols_of file (be32 file 12) i))) a.1 in
+          let a = and_parts (leb (place + 8) (length file)) (well_formed (part file place 8) && not (among (part file place 8) (symbols_of file (be32 file 12) i))) h in
+          let b = and_parts (well_formed (part file place 8)) (not (among (part file place 8) (symbols_of file (be32 file 12) i))) a.1 in
           not-true _ b.1
 
   pub without_fault : WellFormed file → Faultless file

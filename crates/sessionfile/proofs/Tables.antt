@@ -8,10 +8,11 @@ use Rattle.std.specs.List.{range_with_len}
 use Rattle.std.specs.Option.{unwrap_or}
 use Rattle.std.specs.Slice.{IsGetRangeResult}
 use Rattle.std.specs.Simd.{first_chunks}
-use Rattle.messages.specs.Symbols.{well_formed}
+use Rattle.messages.specs.Symbols.{well_formed, among, bad_from}
+use Rattle.messages.proofs.Lists.{good_at, stopped}
 use Rattle.messages.specs.Wire.{be32}
 use Rattle.sessionfile.specs.Entries.{packet_from, readable, then_readable}
-use Rattle.sessionfile.specs.Files.{Field, field, packet_offset, packet_offsets, symbol_at, symbols_of, symbols_inside, is_in, good_symbol, symbol_field, symbol_fields, sound, first_fault}
+use Rattle.sessionfile.specs.Files.{Field, field, packet_offset, packet_offsets, symbol_at, symbols_of, symbols_inside, symbol_field, symbol_fields, sound, first_fault}
 use Rattle.sessionfile.proofs.Faults.{sound_all, sound_skips}
 
 -- the first field that is not sound
@@ -75,31 +76,33 @@ module _ (file : List ℕ) (table n : ℕ) (symbols : List (List ℕ)) (are : sy
   inside = min n ((length file - table) / 8)
 
   abbrev tested : ℕ → Bool
-  tested i = well_formed (symbol_at file table i) && not (is_in (symbol_at file table i) (symbols_of file table i))
+  tested i = well_formed (symbol_at file table i) && not (among (symbol_at file table i) (symbols_of file table i))
 
   inside_all : length symbols ≡ inside
   inside_all = ap length are ∙ length-map-range_with_len (symbol_at file table) 0 inside
 
-  same_test : (i : ℕ) → i < inside → good_symbol symbols i ≡ tested i
+  same_test : (i : ℕ) → i < inside → good_at symbols i ≡ tested i
   same_test i below =
       let own = get_or-map-range_with_len (symbol_at file table) 0 inside i i [] below (omega arith) in
       let before = take-map-range_with_len (symbol_at file table) 0 inside i (omega arith) in
-      ap (λ (l : List (List ℕ)). good_symbol l i) are
-      ∙ ap (λ (s : List ℕ). well_formed s && not (is_in s (take i (symbols_inside file table n)))) own
-      ∙ ap (λ (l : List (List ℕ)). well_formed (symbol_at file table i) && not (is_in (symbol_at file table i) l)) before
+      ap (λ (l : List (List ℕ)). good_at l i) are
+      ∙ ap (λ (s : List ℕ). well_formed s && not (among s (take i (symbols_inside file table n)))) own
+      ∙ ap (λ (l : List (List ℕ)). well_formed (symbol_at file table i) && not (among (symbol_at file table i) l)) before
 
-  module _ (k : ℕ) (good : (i : ℕ) → i < k → good_symbol symbols i ≡ true) (bound : k ≤ length symbols) where
+  module _ (k : ℕ) (is : k ≡ unwrap_or (bad_from [] 0 symbols) (length symbols)) where
     sound_before : (i : ℕ) → i < k → sound file (symbol_field file table i) ≡ true
     sound_before i below =
         let all = inside_all in
+        let s = stopped symbols k is in
+        let bound : k ≤ length symbols = s.bound in
         let fits : table + 8 * i + 8 ≤ length file = omega arith in
-        and_from _ _ (le-leb _ _ fits) (sym (same_test i (omega arith)) ∙ good i below)
+        and_from _ _ (le-leb _ _ fits) (sym (same_test i (omega arith)) ∙ s.good i below)
 
     pub symbols_sound : n ≤ k → first_fault file (symbol_fields file table n) ≡ None
     symbols_sound h = sound_all file (symbol_field file table) 0 n (λ i low high. sound_before i (omega arith))
 
-    pub symbols_at_fault : (k < length symbols → good_symbol symbols k ≡ false) → k < n → first_fault file (symbol_fields file table n) ≡ Some (table + 8 * k)
-    symbols_at_fault next h =
+    pub symbols_at_fault : k < n → first_fault file (symbol_fields file table n) ≡ Some (table + 8 * k)
+    symbols_at_fault h =
         fault_at file (symbol_field file table) 0 n k (λ i low high. sound_before i high) (omega arith) (omega arith) (table + 8 * k) 8 (tested k) refl (bad (leb (table + 8 * k + 8) (length file)) refl)
       where
         bad : (b : Bool) → leb (table + 8 * k + 8) (length file) ≡ b → (b && tested k) ≡ false
@@ -108,7 +111,7 @@ module _ (file : List ℕ) (table n : ℕ) (symbols : List (List ℕ)) (are : sy
             let all = inside_all in
             let fits : table + 8 * k + 8 ≤ length file = leb-true _ _ e in
             let below : k < inside = omega arith in
-            sym (same_test k below) ∙ next (omega arith)
+            sym (same_test k below) ∙ (stopped symbols k is).next (omega arith)
 
 -- the rest of a file from an offset on, which may lie past its end
 pub rest_from : (file : List ℕ) (at : ℕ) (got : Option (Bor (List ℕ))) (rest none : Bor (List ℕ)) → IsGetRangeResult file at (length file) got → none.now ≡ [] → rest ≡ unwrap_or got none → rest.now ≡ drop at file

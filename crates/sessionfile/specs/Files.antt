@@ -1,13 +1,12 @@
 -- The fields of a session file: where each stands, and whether it is good. Numbers are high byte first.
-use Rattle.std.specs.Prelude.{ℕ, ◌+◌, ◌-◌, ◌*◌, ◌/◌, min, Bool, true, cond, not, ◌&&◌, List, [], ◌∷◌, map, length, take, is_some, Some, None, Ok, Err, Option, Result, nat_le, slice_index_or}
-use Rattle.std.specs.List.{range_with_len, list_any}
+use Rattle.std.specs.Prelude.{ℕ, ◌+◌, ◌-◌, ◌*◌, ◌/◌, min, Bool, true, cond, not, ◌&&◌, List, [], ◌∷◌, map, length, is_some, Some, None, Ok, Err, Option, Result, nat_le}
+use Rattle.std.specs.List.{range_with_len}
 use Rattle.std.specs.Option.{unwrap_or, option_or}
-use Rattle.std.specs.Str.{bytes_eq}
 use Rattle.codes.specs.Codes.{coded, kinds, kind_code}
 use Rattle.codes.specs.Refusals.{Returned, placed}
 use Rattle.codes.specs.declared.kind.KindCode.{KindCode}
 use Rattle.codes.specs.declared.kind.KindCode.TheVariants.{Depth}
-use Rattle.messages.specs.Symbols.{well_formed}
+use Rattle.messages.specs.Symbols.{well_formed, among}
 use Rattle.messages.specs.Wire.{byte, be16, be32, part}
 use Rattle.sessionfile.specs.declared.header.FileHeader.{FileHeader}
 
@@ -51,12 +50,9 @@ symbol_at file table i = part file (table + 8 * i) 8
 abbrev pub symbols_of : List ℕ → (table count : ℕ) → List (List ℕ)
 symbols_of file table count = map (symbol_at file table) (range_with_len 0 count)
 
-abbrev pub is_in : List ℕ → List (List ℕ) → Bool
-is_in symbol symbols = list_any (λ s. bytes_eq s symbol) symbols
-
 -- the field of a symbol: well formed, and none of those before it
 abbrev pub symbol_field : List ℕ → (table i : ℕ) → Field
-symbol_field file table i = field (table + 8 * i) 8 (well_formed (symbol_at file table i) && not (is_in (symbol_at file table i) (symbols_of file table i)))
+symbol_field file table i = field (table + 8 * i) 8 (well_formed (symbol_at file table i) && not (among (symbol_at file table i) (symbols_of file table i)))
 
 abbrev pub symbol_fields : List ℕ → (table count : ℕ) → List Field
 symbol_fields file table count = map (symbol_field file table) (range_with_len 0 count)
@@ -87,7 +83,3 @@ file_verdict file = unless (fault file) (header_of file)
 -- the symbols of a table that are wholly inside
 abbrev pub symbols_inside : List ℕ → (table count : ℕ) → List (List ℕ)
 symbols_inside file table count = symbols_of file table (min count ((length file - table) / 8))
-
--- of any symbols: whether one is well formed, and none of those before it
-abbrev pub good_symbol : List (List ℕ) → ℕ → Bool
-good_symbol symbols i = well_formed (slice_index_or symbols i []) && not (is_in (slice_index_or symbols i []) (take i symbols))

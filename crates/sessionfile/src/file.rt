@@ -1,15 +1,15 @@
 // A session file over shared bytes.
-ghost use Rattle.std.specs.Prelude.{◌≡◌, ℕ, ◌<◌, ◌≤◌, true, false, ◌↔◌, length, IfSome, is_ok, IfOk, None};
+ghost use Rattle.std.specs.Prelude.{◌≡◌, ℕ, ◌<◌, ◌≤◌, true, ◌↔◌, length, IfSome, is_ok, IfOk, None};
 ghost use Rattle.std.specs.Option.{option_map};
 ghost use Rattle.codes.specs.Refusals.{answered, refusal_of, placed};
 ghost use Rattle.messages.specs.Wire.{byte};
 ghost use Rattle.sessionfile.specs.Layout.{WellFormed};
-ghost use Rattle.sessionfile.specs.Files.{header_of, packet_offsets, symbol_fields, first_fault, fault, file_verdict, symbols_inside, good_symbol};
+ghost use Rattle.sessionfile.specs.Files.{header_of, packet_offsets, symbol_fields, first_fault, fault, file_verdict, symbols_inside};
 
 use crate::entries::{Entries, OFFSET_SIZE};
 use crate::header::FileHeader;
 use codes::refusal::Refusal;
-use messages::symbol::{Symbol, is_well_formed};
+use messages::symbol::{Symbol, first_bad};
 use replay::store::{ReplayStore, is_packet};
 
 // The length of a symbol's field.
@@ -93,7 +93,8 @@ fn check_packets(bytes: &[u8], header: FileHeader) -> Result<(), Refusal>
 fn check_symbols(bytes: &[u8], header: FileHeader) -> Result<(), Refusal>
     ensures { refusal_of result ≡ option_map (placed 13) (first_fault bytes.now (symbol_fields bytes.now header.names header.symbols)) }
 {
-    let good = good_symbols(symbols_inside(bytes, header));
+    let symbols = symbols_inside(bytes, header);
+    let good = first_bad(symbols).unwrap_or(symbols.len());
     if good < header.symbols as usize {
         return Err(Refusal::BrokenFile(header.names as usize + SYMBOL_SIZE * good));
     }
@@ -110,17 +111,4 @@ fn symbols_inside(bytes: &[u8], header: FileHeader) -> &[Symbol]
         .as_chunks::<SYMBOL_SIZE>();
     let inside = symbols.len().min(header.symbols as usize);
     &symbols[..inside]
-}
-
-// How many symbols come before the first that is malformed or has come before.
-fn good_symbols(symbols: &[Symbol]) -> usize
-    ensures good { (i : ℕ) → i < result → good_symbol symbols.now i ≡ true }
-    ensures next { result < length symbols.now → good_symbol symbols.now result ≡ false }
-    ensures bound { result ≤ length symbols.now }
-{
-    symbols
-        .iter()
-        .enumerate()
-        .position(|(i, symbol)| !is_well_formed(symbol) || symbols[..i].contains(symbol))
-        .unwrap_or(symbols.len())
 }

@@ -7,10 +7,9 @@ ghost use Rattle.sessionfile.specs.Files.{header_fields, first_fault, unless, he
 use codes::kind::KindCode;
 use codes::refusal::Refusal;
 use messages::numbers::array_at;
+use messages::symbol::MOST_SYMBOLS;
 
 const MOST_PACKETS: u32 = 65_535;
-
-const MOST_SYMBOLS: u16 = 1_024;
 
 #[derive(Clone, Copy, Debug, PartialEq, Eq)]
 pub struct FileHeader {
@@ -36,7 +35,7 @@ impl FileHeader {
         }
         let offsets = u32::from_be_bytes(field_at(bytes, 4)?);
         let symbols = u16::from_be_bytes(field_at(bytes, 8)?);
-        if symbols > MOST_SYMBOLS {
+        if symbols as usize > MOST_SYMBOLS {
             return Err(Refusal::BrokenFile(8));
         }
         let [subscription] = field_at::<1>(bytes, 10)?;

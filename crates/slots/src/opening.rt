@@ -1,38 +1,14 @@
 // What opens a session: the check of its watch list, and slots that get their symbols.
-ghost use Rattle.std.specs.Prelude.{◌≡◌, not, ◌&&◌, [], length};
+ghost use Rattle.std.specs.Prelude.{◌≡◌, length};
 ghost use Rattle.codes.specs.Refusals.{refusal_of};
-ghost use Rattle.messages.specs.Symbols.{well_formed};
-ghost use Rattle.runs.specs.WatchLists.{among, bad_from, watch_fault};
+ghost use Rattle.runs.specs.WatchLists.{watch_fault};
 ghost use Rattle.runs.specs.Watching.{named};
 ghost use Rattle.slots.specs.Slots.{watchings};
 
 use crate::slot::Slot;
 use codes::refusal::Refusal;
 use kinds::kind::Kind;
-use messages::symbol::{Symbol, is_well_formed};
-
-// The most series that a session watches.
-pub const MOST_SYMBOLS: usize = 1_024;
-
-// Well formed, and not among those before it.
-fn is_good(symbol: &Symbol, before: &[Symbol]) -> bool
-    ensures { result ≡ (well_formed symbol.now && not (among symbol.now before.now)) }
-{
-    is_well_formed(symbol) && !before.contains(symbol)
-}
-
-// The index of the first symbol that is malformed, or stands before it too.
-#[tactic(auto, using(runs::proofs::WatchLists::bad_here, runs::proofs::WatchLists::bad_on, runs::proofs::WatchLists::bad_end))]
-fn first_bad(symbols: &[Symbol]) -> Option<usize>
-    ensures { result ≡ bad_from [] 0 symbols.now }
-{
-    for (i, symbol) in symbols.iter().enumerate() {
-        if !is_good(symbol, &symbols[..i]) {
-            return Some(i);
-        }
-    }
-    None
-}
+use messages::symbol::{MOST_SYMBOLS, Symbol, first_bad};
 
 // Whether these symbols can be watched in these slots, or refusal 10: at 1,024 for more symbols than that, at the first
 // malformed or repeated one, at 0 where there are not as many slots.
