@@ -1,6 +1,7 @@
 -- A written packet is laid out as its header and its messages.
 use Rattle.std.proofs.Common.{◌≡◌, ℕ, zero, suc, ◌+◌, ◌<◌, ◌≤◌, Bool, true, false, cond, leb, List, [], ◌∷◌, length, take, drop, Some, None, Ok, Err, Option, Result, sym, refl, ap, ◌∙◌, subst, arith, length-drop}
 use Rattle.std.proofs.lemmas.List.{take_at}
+use Rattle.std.proofs.lemmas.Option.{same_Some}
 use Rattle.std.proofs.lemmas.Bool.{cond-true, cond-false, leb-true, le-leb, lt-leb}
 use Rattle.codes.specs.Refusals.{Returned, alone, number_of}
 use Rattle.codes.specs.declared.packet.PacketType.TheVariants.{Heartbeat}
@@ -16,9 +17,6 @@ use Rattle.encode.specs.Packing.{packet_header, packet_bytes, first_refused, mes
 use Rattle.encode.specs.Writing.{put_answer, put}
 use Rattle.encode.proofs.Numbers.{back16, back32}
 use Rattle.encode.proofs.Packings.{fault_some}
-
-some_is : (r s : Returned) → Some r ≡ Some s → r ≡ s
-some_is r s e = cc
 
 -- what refuses a message is its offset
 refused_upto : (k subscription offset : ℕ) (bytes : List ℕ) (r : Returned) → first_refused (at_most k subscription offset bytes) ≡ Some r → r ≡ alone 9 → ⊥
@@ -123,8 +121,8 @@ module _ (subscription number : ℕ) (messages : List ℕ) where
 
       by : (l n : Bool) → cond l (cond n (messages_fault subscription messages) (Some (alone 4))) (Some (alone 1)) ≡ Some r → ⊥
       by true true e = by_body messages e
-      by true false e = let four : ◌≡◌ {A = ℕ} 4 9 = ap number_of (some_is (alone 4) r e ∙ room) in omega arith
-      by false n e = let one : ◌≡◌ {A = ℕ} 1 9 = ap number_of (some_is (alone 1) r e ∙ room) in omega arith
+      by true false e = let four : ◌≡◌ {A = ℕ} 4 9 = ap number_of (same_Some (alone 4) r e ∙ room) in omega arith
+      by false n e = let one : ◌≡◌ {A = ℕ} 1 9 = ap number_of (same_Some (alone 1) r e ∙ room) in omega arith
 
   module _ (before : List ℕ) where
     no_room : (r : Returned) → packet_fault subscription number messages ≡ Some r → Err r ≡ put_answer (8 + length messages) before → ⊥
@@ -188,24 +186,6 @@ module _ (subscription number : ℕ) (messages : List ℕ) (short : length messa
 
 -- the heartbeat
 module _ (subscription number : ℕ) (before : List ℕ) where
-  pub heartbeat_refused : 4294967294 < number → WroteHeartbeat subscription number before before (Err (alone 4))
-  heartbeat_refused h =
-      let e = cond-false (leb number 4294967294) None (Some (alone 4)) (lt-leb _ _ h) in
-      record {
-        answers = sym (ap (λ f. or_fault f (packet_header Heartbeat 8 subscription number) before) e);
-        leaves = sym (ap (λ f. put_unless f (packet_header Heartbeat 8 subscription number) before) e);
-        laid = λ a. let z : ◌≡◌ {A = ℕ} 0 1 = cc in absurd (omega arith);
-        reads = λ a. let z : ◌≡◌ {A = ℕ} 0 1 = cc in absurd (omega arith);
-        refuses = (λ a. absurd (no_place a), λ p. let high = p.1.high in absurd (omega arith));
-      }
-    where
-      no_place : Err (alone 4) ≡ put_answer 8 before → ⊥
-      no_place a = by (leb 8 (length before)) a
-        where
-          by : (t : Bool) → ◌≡◌ {A = Result ℕ Returned} (Err (alone 4)) (cond t (Ok 8) (Err (alone 9))) → ⊥
-          by true a = let z : ◌≡◌ {A = ℕ} 0 1 = cc in omega arith
-          by false a = let four : ◌≡◌ {A = ℕ} 4 9 = cc in omega arith
-
   module _ (after own : List ℕ) (answer : Result ℕ Returned) (high : number ≤ 4294967294) (is : own ≡ packet_header Heartbeat 8 subscription number) (given : answer ≡ put_answer (length own) before) (left : after ≡ put own before) where
     beat_answer : answer ≡ put_answer 8 before
     beat_answer = subst (λ l. answer ≡ put_answer (length l) before) is given

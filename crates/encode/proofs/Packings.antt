@@ -3,7 +3,7 @@ use Rattle.std.proofs.Common.{◌≡◌, ℕ, ◌+◌, ◌-◌, ◌<◌, ◌≤�
 use borrow.Rule.Slice.PartMut.{put_mid}
 use Rattle.std.proofs.lemmas.List.{take_at, drop_at, drop-drop}
 use Rattle.std.proofs.lemmas.Bool.{cond-true, le-leb}
-use Rattle.codes.specs.Refusals.{Returned, placed}
+use Rattle.codes.specs.Refusals.{Returned}
 use Rattle.messages.specs.Content.{Content, size}
 use Rattle.feed.specs.Items.{items}
 use Rattle.messages.specs.Verdict.{verdict}
@@ -14,10 +14,6 @@ use Rattle.encode.specs.Writing.{put_answer, put}
 pub fault_some : (subscription : ℕ) (messages : List ℕ) → 0 < length messages → messages_fault subscription messages ≡ first_refused (items subscription 8 messages)
 fault_some subscription [] h = absurd (omega arith)
 fault_some subscription (b ∷ bs) h = refl
-
-pub fault_none : (subscription : ℕ) (messages : List ℕ) → length messages ≡ 0 → messages_fault subscription messages ≡ Some (placed 5 8)
-fault_none subscription [] h = refl
-fault_none subscription (b ∷ bs) h = absurd (omega arith)
 
 -- one more message
 module _ (subscription : ℕ) (messages : List ℕ) (at : ℕ) where

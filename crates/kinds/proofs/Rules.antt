@@ -1,6 +1,6 @@
 -- The three meanings keep their rules.
 use Rattle.std.proofs.Common.{◌≡◌, ℕ, Bool, false, eqb, List, ◌++◌, length, replicate, refl, ap, ◌∙◌, take-append-drop}
-use Rattle.std.proofs.lemmas.List.{replicate-append-replicate}
+use Rattle.std.proofs.lemmas.List.{take_at, drop_at, replicate-append-replicate}
 use Rattle.messages.specs.declared.fields.EventForm.{EventForm}
 use Rattle.messages.specs.declared.fields.QuoteFields.{QuoteFields}
 use Rattle.kinds.specs.Levels.{new_level, numbers, ten}
@@ -10,14 +10,14 @@ use Rattle.kinds.specs.Top.{of_top, best_after}
 use Rattle.kinds.specs.Imbalance.{imbalance_meaning}
 use Rattle.kinds.specs.Rules.{EventRules, NoImbalances, LevelRules, DepthRules, TopRules, ImbalanceRules}
 use Rattle.kinds.proofs.Changes.{laws}
-use Rattle.kinds.proofs.Shown.{front, back, on_bid, on_offer, levels_numbers}
+use Rattle.kinds.proofs.Shown.{on_bid, on_offer, levels_numbers}
 
 module _ (w : ℕ) (f : EventForm) where
   pub cleared_offer : code_of f ≡ 65 → (bids offers : List ℕ) → length bids ≡ w → cleared w f (bids ++ offers) ≡ bids ++ replicate w 0
-  cleared_offer e bids offers fits = rw (e) (ap (λ kept. kept ++ replicate w 0) (front w bids offers fits))
+  cleared_offer e bids offers fits = rw (e) (ap (λ kept. kept ++ replicate w 0) (take_at bids offers w fits))
 
   pub cleared_bid : code_of f ≡ 66 → (bids offers : List ℕ) → length bids ≡ w → cleared w f (bids ++ offers) ≡ replicate w 0 ++ offers
-  cleared_bid e bids offers fits = rw (e) (ap (λ kept. replicate w 0 ++ kept) (back w bids offers fits))
+  cleared_bid e bids offers fits = rw (e) (ap (λ kept. replicate w 0 ++ kept) (drop_at bids offers w fits))
 
   pub cleared_both : code_of f ≡ 67 → (r : List ℕ) → cleared w f r ≡ replicate w 0 ++ replicate w 0
   cleared_both e r = rw (e) refl

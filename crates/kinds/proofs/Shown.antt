@@ -1,6 +1,6 @@
 -- Books and their numbers.
-use Rattle.std.proofs.Common.{◌≡◌, ℕ, List, [], ◌∷◌, ◌++◌, length, take, drop, sym, refl, ap, ◌∙◌}
-use Rattle.std.proofs.Math.Seq.{take-append_seam, drop-append_seam}
+use Rattle.std.proofs.Common.{◌≡◌, ℕ, List, [], ◌∷◌, ◌++◌, length, refl, ap}
+use Rattle.std.proofs.lemmas.List.{take_at, drop_at}
 use Rattle.codes.specs.declared.quote.Side.TheVariants as side
 use Rattle.kinds.specs.declared.book.PriceLevel.{PriceLevel}
 use Rattle.kinds.specs.Levels.{numbers, levels_in}
@@ -12,14 +12,8 @@ levels_numbers (l ∷ ls) = ap (λ ms. l ∷ ms) (levels_numbers ls)
 
 -- two lists joined, the first of a known length
 module _ (w : ℕ) (xs ys : List ℕ) (fits : length xs ≡ w) where
-  pub front : take w (xs ++ ys) ≡ xs
-  front = ap (λ n. take n (xs ++ ys)) (sym fits) ∙ take-append_seam xs ys
-
-  pub back : drop w (xs ++ ys) ≡ ys
-  back = ap (λ n. drop n (xs ++ ys)) (sym fits) ∙ drop-append_seam xs ys
-
   pub on_bid : (change : List ℕ → List ℕ) → on_side w side.Bid change (xs ++ ys) ≡ change xs ++ ys
-  on_bid change = rw (front, back) refl
+  on_bid change = rw (take_at xs ys w fits, drop_at xs ys w fits) refl
 
   pub on_offer : (change : List ℕ → List ℕ) → on_side w side.Offer change (xs ++ ys) ≡ xs ++ change ys
-  on_offer change = rw (front, back) refl
+  on_offer change = rw (take_at xs ys w fits, drop_at xs ys w fits) refl

@@ -2,6 +2,9 @@
 use Rattle.std.proofs.Common.{◌≡◌, ℕ, Bool, true, false, cond, ◌||◌, List, [], ◌∷◌, map, is_some, Some, None, Option, sym, refl, ap, ◌∙◌}
 use Rattle.std.specs.Option.{option_map}
 use Rattle.std.specs.Str.{bytes_eq}
+use Rattle.std.proofs.lemmas.Iterator.Adapters.{option_map_id}
+use Rattle.std.proofs.lemmas.Slice.Eq.{bytes_eq-Decides}
+use Rattle.std.proofs.lemmas.Bool.Decides.{not_from_Decides}
 use Rattle.messages.specs.Content.{Content}
 use Rattle.kinds.specs.Meaning.{Meaning}
 use Rattle.runs.specs.Taking.{Numbered, Slot, numbered, fresh, taken}
@@ -9,7 +12,6 @@ use Rattle.runs.specs.Watching.{Watched, renewed, offered, offered_if, fed}
 use Rattle.messages.specs.Symbols.{among}
 use Rattle.runs.specs.Publisher.{also, numbered_in, of_series}
 use Rattle.runs.proofs.Series.{after}
-use Rattle.runs.proofs.Symbols.{same_true, not_same}
 
 -- the slot of a series
 abbrev pub slot_in : List Watched → List ℕ → Option Slot
@@ -19,19 +21,15 @@ slot_in (w ∷ ws) x = cond (bytes_eq w.symbol x) (Some w.slot) (slot_in ws x)
 abbrev pub symbols : List Watched → List (List ℕ)
 symbols ws = map (λ (w : Watched). w.symbol) ws
 
-mapped_id : (o : Option Slot) → option_map (λ s. s) o ≡ o
-mapped_id (Some s) = refl
-mapped_id None = refl
-
 module _ (K : Meaning) (m : Numbered) (x : List ℕ) where
   offered_head : (w : Watched) (rest rest' : Option Slot) (b1 b2 b3 : Bool) → bytes_eq w.symbol m.symbol ≡ b1 → bytes_eq w.symbol x ≡ b2 → bytes_eq m.symbol x ≡ b3 →
       rest' ≡ option_map (after K (cond b3 (m ∷ []) [])) rest →
       cond b1 (cond b2 (Some (taken K w.slot m)) rest) (cond b2 (Some w.slot) rest') ≡ option_map (after K (cond b3 (m ∷ []) [])) (cond b2 (Some w.slot) rest)
   offered_head w rest rest' true true true e f g h = refl
-  offered_head w rest rest' true true false e f g h = absurd (not_same m.symbol x g (sym (same_true w.symbol m.symbol e) ∙ same_true w.symbol x f))
-  offered_head w rest rest' true false true e f g h = absurd (not_same w.symbol x f (same_true w.symbol m.symbol e ∙ same_true m.symbol x g))
-  offered_head w rest rest' true false false e f g h = sym (mapped_id rest)
-  offered_head w rest rest' false true true e f g h = absurd (not_same w.symbol m.symbol e (same_true w.symbol x f ∙ sym (same_true m.symbol x g)))
+  offered_head w rest rest' true true false e f g h = absurd (not_from_Decides _ (bytes_eq-Decides m.symbol x) g (sym ((bytes_eq-Decides w.symbol m.symbol).0 e) ∙ (bytes_eq-Decides w.symbol x).0 f))
+  offered_head w rest rest' true false true e f g h = absurd (not_from_Decides _ (bytes_eq-Decides w.symbol x) f ((bytes_eq-Decides w.symbol m.symbol).0 e ∙ (bytes_eq-Decides m.symbol x).0 g))
+  offered_head w rest rest' true false false e f g h = sym (option_map_id rest)
+  offered_head w rest rest' false true true e f g h = absurd (not_from_Decides _ (bytes_eq-Decides w.symbol m.symbol) e ((bytes_eq-Decides w.symbol x).0 f ∙ sym ((bytes_eq-Decides m.symbol x).0 g)))
   offered_head w rest rest' false true false e f g h = refl
   offered_head w rest rest' false false b3 e f g h = h
 
@@ -61,7 +59,7 @@ module _ (K : Meaning) (m : Numbered) (x : List ℕ) where
 module _ (K : Meaning) where
   -- a series' slot after the messages of a packet: only its own matter
   pub slot_fed : (x : List ℕ) (cs : List Content) (ws : List Watched) → slot_in (fed K ws cs) x ≡ option_map (after K (of_series x (numbered_in cs))) (slot_in ws x)
-  slot_fed x [] ws = sym (mapped_id (slot_in ws x))
+  slot_fed x [] ws = sym (option_map_id (slot_in ws x))
   slot_fed x (c ∷ cs) ws = by (numbered c) (λ vs. slot_fed x cs vs)
     where
       by : (o : Option Numbered) → ((vs : List Watched) → slot_in (fed K vs cs) x ≡ option_map (after K (of_series x (numbered_in cs))) (slot_in vs x)) → slot_in (fed K (offered_if K o ws) cs) x ≡ option_map (after K (of_series x (also o (numbered_in cs)))) (slot_in ws x)

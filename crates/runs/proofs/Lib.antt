@@ -1,7 +1,6 @@
 pub mod Headers
 pub mod Checks
 pub mod Openings
-pub mod Symbols
 pub mod Series
 pub mod Books
 pub mod Theorem

@@ -1,8 +1,9 @@
 -- A file without a fault is a well-formed one.
 use Rattle.std.proofs.Common.{◌≡◌, ℕ, zero, suc, ◌+◌, ◌*◌, ◌<◌, ◌≤◌, Bool, true, false, cond, not, ◌&&◌, ◌||◌, leb, ◌↔◌, List, [], ◌∷◌, map, length, drop, is_some, is_ok, Some, None, Option, Result, sym, refl, ap, ◌∙◌, inl, inr, arith, length-drop}
 use Rattle.std.proofs.lemmas.Slice.Eq.{bytes_eq-Decides}
+use Rattle.std.proofs.lemmas.Bool.Decides.{not_from_Decides}
 use Rattle.std.proofs.lemmas.List.{length-take-le}
-use Rattle.std.proofs.lemmas.Bool.{cases_eq, and_parts, and_from, or_parts, not-true, leb-true, le-leb}
+use Rattle.std.proofs.lemmas.Bool.{false_from_ne_true, cases_eq, and_parts, and_from, or_parts, not-true, leb-true, le-leb}
 use Rattle.std.specs.List.{range_with_len}
 use Rattle.std.specs.Option.{option_or}
 use Rattle.std.specs.Str.{bytes_eq}
@@ -53,27 +54,17 @@ module _ (file : List ℕ) where
   sound_all at a (suc n) h = sound_skips (at a) (map at (range_with_len (a + 1) n)) (h a (omega arith) (omega arith)) ∙ sound_all at (a + 1) n (λ i low high. h i (omega arith) (omega arith))
 
 -- a symbol among others
-differs : (s t : List ℕ) → bytes_eq s t ≡ false → s ≡ t → ⊥
-differs s t h e = let same = (bytes_eq-Decides s t).1 e in absurd cc
-
-apart : (s t : List ℕ) → (s ≡ t → ⊥) → bytes_eq s t ≡ false
-apart s t h = by (bytes_eq s t) refl
-  where
-    by : (b : Bool) → bytes_eq s t ≡ b → bytes_eq s t ≡ false
-    by true e = absurd (h ((bytes_eq-Decides s t).0 e))
-    by false e = e
-
 module _ (symbol : List ℕ) (at : ℕ → List ℕ) where
   in_none : (a n : ℕ) → among symbol (map at (range_with_len a n)) ≡ false → (i : ℕ) → a ≤ i → i < a + n → at i ≡ symbol → ⊥
   in_none a zero h i low high e = omega arith
   in_none a (suc n) h i low high e =
       let p = or_parts (bytes_eq (at a) symbol) (among symbol (map at (range_with_len (a + 1) n))) h in
-      elim (cases_eq a i) [ inl same ↦ differs (at a) symbol p.0 (ap at same ∙ e) | inr ne ↦ in_none (a + 1) n p.1 i (omega arith) (omega arith) e ]
+      elim (cases_eq a i) [ inl same ↦ not_from_Decides _ (bytes_eq-Decides (at a) symbol) p.0 (ap at same ∙ e) | inr ne ↦ in_none (a + 1) n p.1 i (omega arith) (omega arith) e ]
 
   none_in : (a n : ℕ) → ((i : ℕ) → a ≤ i → i < a + n → at i ≡ symbol → ⊥) → among symbol (map at (range_with_len a n)) ≡ false
   none_in a zero h = refl
   none_in a (suc n) h =
-      ap (λ (b : Bool). b || among symbol (map at (range_with_len (a + 1) n))) (apart (at a) symbol (h a (omega arith) (omega arith)))
+      ap (λ (b : Bool). b || among symbol (map at (range_with_len (a + 1) n))) (false_from_ne_true _ (λ e. h a (omega arith) (omega arith) ((bytes_eq-Decides (at a) symbol).0 e)))
       ∙ none_in (a + 1) n (λ i low high. h i (omega arith) (omega arith))
 
 -- the kind
@@ -141,24 +132,17 @@ module _ (file : List ℕ) where
         kind = k.kind;
         kind_field = k.is;
         packet_offsets = λ i below. offset_from (be32 file 4 + 4 * i) (all_sound file (λ i. packet_offset file (be32 file 4 + 4 * i)) 0 (be32 file 0) f.packets i (omega arith) (omega arith));
-        symbols = λ i below. symbol_entry i (each i below);
-        distinct = λ i j before below. in_none (symbol_at file table j) (symbol_at file table) 0 j (symbol_apart j (each j below)) i (omega arith) (omega arith);
+        symbols = λ i below. (symbol_entry i (each i below)).0;
+        distinct = λ i j before below. in_none (symbol_at file table j) (symbol_at file table) 0 j (symbol_entry j (each j below)).1 i (omega arith) (omega arith);
       }
     where
-      symbol_entry : (i : ℕ) → sound file (symbol_field file (be32 file 12) i) ≡ true → SymbolField file (be32 file 12 + 8 * i)
+      symbol_entry : (i : ℕ) → sound file (symbol_field file (be32 file 12) i) ≡ true → SymbolField file (be32 file 12 + 8 * i) × (among (symbol_at file (be32 file 12) i) (symbols_of file (be32 file 12) i) ≡ false)
       symbol_entry i h =
           let place = be32 file 12 + 8 * i in
           let a = and_parts (leb (place + 8) (length file)) (well_formed (part file place 8) && not (among (part file place 8) (symbols_of file (be32 file 12) i))) h in
           let b = and_parts (well_formed (part file place 8)) (not (among (part file place 8) (symbols_of file (be32 file 12) i))) a.1 in
           let inside : place + 8 ≤ length file = leb-true _ _ a.0 in
-          record { inside = inside; symbol = symbol_from (part file place 8) (length-take-le 8 (drop place file) (omega (arith, length-drop place file))) b.0 }
-
-      symbol_apart : (i : ℕ) → sound file (symbol_field file (be32 file 12) i) ≡ true → among (symbol_at file (be32 file 12) i) (symbols_of file (be32 file 12) i) ≡ false
-      symbol_apart i h =
-          let place = be32 file 12 + 8 * i in
-          let a = and_parts (leb (place + 8) (length file)) (well_formed (part file place 8) && not (among (part file place 8) (symbols_of file (be32 file 12) i))) h in
-          let b = and_parts (well_formed (part file place 8)) (not (among (part file place 8) (symbols_of file (be32 file 12) i))) a.1 in
-          not-true _ b.1
+          (record { inside = inside; symbol = symbol_from (part file place 8) (length-take-le 8 (drop place file) (omega (arith, length-drop place file))) b.0 }, not-true _ b.1)
 
   pub without_fault : WellFormed file → Faultless file
   without_fault w =

@@ -69,11 +69,11 @@ module _ (file : List ℕ) (h : FileHeader) (read : Read file h) where
     unfolding fault
     refused_symbols e r = by_third (header_of file) e _ _ _ read.sound packets_sound (r ∙ ap (option_map (placed 13)) symbols_same)
 
-    pub all_checked : None ≡ option_map (placed 13) (first_fault file (symbol_fields file h.names h.symbols)) → Faultless file
-    all_checked symbols = record { header = read.sound; packets = packets_sound; symbols = sym symbols_same ∙ none_mapped _ symbols }
+    pub all_checked : None ≡ option_map (placed 13) (first_fault file (symbol_fields file h.names h.symbols)) → fault file ≡ None
+    all_checked symbols = no_fault file record { header = read.sound; packets = packets_sound; symbols = sym symbols_same ∙ none_mapped _ symbols }
 
-  pub opened : Faultless file → Ok h ≡ file_verdict file
-  opened f = ap Ok read.is ∙ ap (λ (o : Option ℕ). unless o (header_of file)) (sym (no_fault file f))
+  pub opened : fault file ≡ None → Ok h ≡ file_verdict file
+  opened f = ap Ok read.is ∙ ap (λ (o : Option ℕ). unless o (header_of file)) (sym f)
 
 -- where no offset is at fault, the packets of all of them are given
 readable_all : (file : List ℕ) (table : ℕ) (is : List ℕ) → first_fault file (map (λ i. packet_offset file (table + 4 * i)) is) ≡ None → readable file table is ≡ map (λ i. packet_from file (be32 file (table + 4 * i))) is

@@ -12,9 +12,6 @@ use Rattle.window.specs.Windows.{cells, front, ring, packets_in, added}
 use Rattle.window.proofs.Cells.{Whole, fronts, length-fronts, fronts-written, length-written}
 
 -- a number below two rounds, in the ring
-round_low : (n c : ℕ) → n < c → n % c ≡ n
-round_low n c h = mod-eq_of_lt h
-
 round_high : (n c : ℕ) → c ≤ n → n < c + c → n % c ≡ n - c
 round_high n c h below = mod-eq-sub-mod h ∙ mod-eq_of_lt (omega arith)
 
@@ -27,7 +24,7 @@ module _ {E : Type 0} (es : List E) (c f : ℕ) (y : E) (is : length es ≡ c) (
   ring-set n t h at =
       elim (cases_lt (f + n) c) [
         | inl low ↦ (
-            let e : t ≡ f + n = at ∙ round_low (f + n) c low in
+            let e : t ≡ f + n = at ∙ mod-eq_of_lt low in
             let room : n < length (drop f es) = omega (arith, length-drop f es) in
             let back : drop f (set es t y) ≡ set (drop f es) n y = rw e (drop-set-add f es n y) in
             let front : take f (set es t y) ≡ take f es = take-set-le f es t y (omega arith) in
@@ -62,7 +59,7 @@ module _ {E : Type 0} (es : List E) (c f : ℕ) (y : E) (is : length es ≡ c) (
   ring_round f' at =
       elim (cases_lt (f + 1) c) [
         | inl low ↦ (
-            let e : f' ≡ suc f = at ∙ round_low (f + 1) c low ∙ omega arith in
+            let e : f' ≡ suc f = at ∙ mod-eq_of_lt low ∙ omega arith in
             let back : drop (suc f) (set es f y) ≡ drop (suc f) es = drop-set-lt (suc f) es f y (omega arith) in
             let front : take (suc f) (set es f y) ≡ take f es ++ (y ∷ []) = take-suc-set es f y (omega arith) in
             rw (e, back, front, earliest_off) (sym (append_assoc (drop (suc f) es) (take f es) (y ∷ [])))

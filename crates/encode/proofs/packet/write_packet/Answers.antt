@@ -1,26 +1,20 @@
 use Rattle.std.proofs.Common.{ℕ, ◌+◌, List, [], ◌++◌, length, Some, None, sym, ap, ◌∙◌, append-nil, arith}
 use Rattle.std.proofs.lemmas.Result.{err_from_is_err_and}
-use Rattle.codes.specs.Refusals.{alone, returned}
+use Rattle.codes.specs.Refusals.{returned}
 use Rattle.encode.specs.Encode.{header_bytes}
 use Rattle.encode.proofs.Packets.{packet_refused, packet_put, fault_length, fault_number, fault_messages}
 use Rattle.encode.proofs.packet.write_packet.Goals as goal
 
 pub returns-then-messages : goal.returns-then-messages
-returns-then-messages c =
-    let messages = c.args.messages.now in
-    packet_refused c.args.subscription c.args.number messages c.args.out.now (alone 1) (fault_length c.args.subscription c.args.number messages (omega arith))
+returns-then-messages c = packet_refused _ _ _ _ _ (fault_length _ _ _ (omega arith))
 
 pub returns-then-not-in_range : goal.returns-then-not-in_range
-returns-then-not-in_range c =
-    let messages = c.args.messages.now in
-    packet_refused c.args.subscription c.args.number messages c.args.out.now (alone 4) (fault_number c.args.subscription c.args.number messages (omega arith) (sym c.if-not-in_range.ensures))
+returns-then-not-in_range c = packet_refused _ _ _ _ _ (fault_number _ _ _ (omega arith) (sym c.if-not-in_range.ensures))
 
 pub returns-in_err-check_messages : goal.returns-in_err-check_messages
 returns-in_err-check_messages c =
-    let messages = c.args.messages.now in
     let p = err_from_is_err_and c.from_residual.result c.from_residual.ensures.1 in
-    let r = returned c.in_err-check_messages.field-0.0 in
-    rw (p.1, p.2) (packet_refused c.args.subscription c.args.number messages c.args.out.now r (fault_messages c.args.subscription c.args.number messages (omega arith) (Some r) (sym c.if-not-in_range.ensures) c.in_err-check_messages.ensures))
+    rw (p.1, p.2) (packet_refused _ _ _ _ _ (fault_messages _ _ _ (omega arith) (Some (returned c.in_err-check_messages.field-0.0)) (sym c.if-not-in_range.ensures) c.in_err-check_messages.ensures))
 
 pub returns : goal.returns
 returns c =

@@ -15,10 +15,10 @@ pub returns-then-self-cells-clause-keeps : goal.returns-then-self-cells-clause-k
 unfolding cells
 returns-then-self-cells-clause-keeps c =
     let w = c.args.self.now in
-    add_free w.area.now c.args.packet.now c.copy_from_slice.new.self _ w.first w.count _ _ refl (omega arith) w.count_in refl (omega arith) (whole c.args.packet.now c.requires) c.copy_from_slice.ensures.after c.if-self-cells.true
+    add_free _ _ _ _ _ _ _ _ refl (omega arith) w.count_in refl (omega arith) (whole _ c.requires) c.copy_from_slice.ensures.after c.if-self-cells.true
 
 pub returns-else-self-cells-clause-keeps : goal.returns-else-self-cells-clause-keeps
 unfolding cells
 returns-else-self-cells-clause-keeps c =
     let w = c.args.self.now in
-    add_full w.area.now c.args.packet.now c.copy_from_slice.new.self _ w.first w.count _ _ refl (omega arith) w.count_in refl (omega arith) (whole c.args.packet.now c.requires) c.copy_from_slice.ensures.after _ c.if-self-cells.false refl
+    add_full _ _ _ _ _ _ _ _ refl (omega arith) w.count_in refl (omega arith) (whole _ c.requires) c.copy_from_slice.ensures.after _ c.if-self-cells.false refl
