@@ -112,11 +112,9 @@ impl<'a, K: Kind> Session<'a, K> {
         self.stamp.is_none()
     }
 
-    // (`same` stands at each call that makes or changes a session: no ghost field can speak of the borrow that a session
-    // had before a call, and without it a lender knows nothing of its slots afterwards.)
-    //
     // Takes one packet, whole or not at all: how many of its messages moved a last number, or the refusal, 1 to 8, of
-    // the uppermost row that is met; then nothing has changed. It holds the same borrow of the lender's slots.
+    // the uppermost row that is met; then nothing has changed. It holds the same borrow of the lender's slots: no ghost
+    // field can speak of what was before a call, and without `same` a lender knows nothing of its slots afterwards.
     #[tactic(auto, unfolding(runs::specs::States::delivered))]
     pub fn deliver(&mut self, bytes: &[u8]) -> Result<usize, Refusal>
         ensures answer { answered (λ n. n) result ≡ (delivered K.Kind.meaning (state K.Kind.shows self.old) bytes.now).0 }

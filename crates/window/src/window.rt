@@ -62,10 +62,9 @@ impl<'a> Window<'a> {
         }
     }
 
-    // (`lent`, the same borrow as before, stands at each call: no ghost field can speak of what a window was before one.)
-    //
     // Adds an M packet of the window's subscription, in the place of the earliest one where no cell is free; a number
     // already held stays as it is. Refusals 1, 2, 3 (not M) and 4, in this order, change nothing. Messages are not read.
+    // The borrow is the same as before (`lent`), of which no ghost field can speak.
     pub fn keep(&mut self, packet: &[u8]) -> Result<(), Refusal>
         ensures answers { answered (λ _. tt) result ≡ keep_verdict (keepable self.old.subscription packet.now) }
         ensures keeps { packets self.new ≡ kept (room self.old) self.old.subscription packet.now (packets self.old) }
