@@ -2,6 +2,7 @@
 #![tactic(auto)]
 
 pub mod auction;
+pub mod conversions;
 pub mod event;
 pub mod kind;
 pub mod message;

@@ -61,6 +61,11 @@ pub enum EventForm {
     Reset,
 }
 
+// What the conversion below means, stated of the member that generic callers see.
+pub fn forms_have_codes()
+    ensures { (form : _) (code : _) → ⟦<EventCode as From<EventForm>>⟧.from_gives form code → code ≡ form_code form }
+{}
+
 // Which event it is, by its two codes.
 impl From<EventForm> for EventCode {
     ghost from_gives = { λ form code. code ≡ form_code form };

@@ -1,9 +1,7 @@
 -- Numbered messages, and how a series takes them.
-use Rattle.std.specs.Prelude.{ℕ, suc, max, Bool, cond, ◌&&◌, ◌||◌, List, Some, None, Option, ◌==◌, nat_lt}
-use Rattle.messages.specs.Content.{Content, quote, imbalance, event}
-use Rattle.messages.specs.declared.fields.EventFields.{EventFields}
-use Rattle.messages.specs.declared.fields.EventForm.{EventForm}
-use Rattle.messages.specs.declared.fields.EventForm.TheVariants as form
+use Rattle.std.specs.Prelude.{ℕ, suc, max, Bool, cond, ◌&&◌, ◌||◌, List, Option, ◌==◌, nat_lt}
+use Rattle.std.specs.Option.{option_map}
+use Rattle.messages.specs.Content.{Content, name_in}
 use Rattle.kinds.specs.Meaning.{Meaning}
 
 -- a message of a series, with its number there
@@ -12,17 +10,9 @@ pub record Numbered : Type 0 where
   pub number : ℕ
   pub content : Content
 
--- an event of an underlying and the reset are of no series
-abbrev pub event_numbered : EventFields → EventForm → Option Numbered
-event_numbered e (form.Numbered number symbol code) = Some (record { symbol = symbol; number = number; content = event e })
-event_numbered e (form.Underlying code) = None
-event_numbered e form.Reset = None
-
--- which series a message is of, and its number there
+-- which series a message is of, and its number there; an event of an underlying and the reset are of no series
 abbrev pub numbered : Content → Option Numbered
-numbered (quote q) = Some (record { symbol = q.symbol; number = q.number; content = quote q })
-numbered (imbalance i) = Some (record { symbol = i.symbol; number = i.number; content = imbalance i })
-numbered (event e) = event_numbered e e.form
+numbered c = option_map (λ name. record { symbol = name.1; number = name.0; content = c }) (name_in c)
 
 -- a record, and the number of the last message taken into it
 pub record Kept : Type 0 where

@@ -10,11 +10,7 @@ use Rattle.std.proofs.lemmas.List.Edits.{map_over_more}
 use Rattle.std.proofs.lemmas.Bool.{cond-true, cond-false}
 use Rattle.codes.specs.Refusals.{alone}
 use Rattle.kinds.specs.Meaning.{Meaning}
-use Rattle.std.specs.Option.{option_map}
-use Rattle.messages.specs.Content.{Content, quote, imbalance, event, form_name, name_in}
-use Rattle.messages.specs.declared.fields.EventForm.{EventForm}
-use Rattle.messages.specs.declared.fields.EventForm.TheVariants as form
-use Rattle.runs.specs.Taking.{Numbered, numbered, event_numbered, takes, taken}
+use Rattle.runs.specs.Taking.{Numbered, takes, taken}
 use Rattle.runs.proofs.Openings.{named_from, named_more, named_past}
 use Rattle.runs.specs.States.{view, view_of}
 use Rattle.runs.specs.Watching.{Watched, renewed, offered, moves}
@@ -58,17 +54,6 @@ module _ {R B : Type 0} (x : List ℕ) (of_slot : Slot R → B) (found : List (S
 
   pub found_none : (xs : List (Slot R)) → None ≡ place x xs → found [] ≡ found xs
   found_none xs e = not_there xs (unplaced x xs e)
-
--- a message of a series, by its number and its symbol
-pub numbered_by_name : (c : Content) → numbered c ≡ option_map (λ name. record { symbol = name.1; number = name.0; content = c }) (name_in c)
-numbered_by_name (quote q) = refl
-numbered_by_name (imbalance i) = refl
-numbered_by_name (event e) = by e.form
-  where
-    by : (f : EventForm) → event_numbered e f ≡ option_map (λ name. record { symbol = name.1; number = name.0; content = event e }) (form_name f)
-    by (form.Numbered number symbol code) = refl
-    by (form.Underlying code) = refl
-    by form.Reset = refl
 
 module _ {R : Type 0} (shows : R → List ℕ) (K : Meaning) (m : Numbered) where
   -- a slot after the message

@@ -53,7 +53,6 @@ fn offer<K: Kind>(
 }
 
 // A message, whatever it is: an event of an underlying and the reset go to no slot.
-#[tactic(auto, using(crate::proofs::Places::numbered_by_name))]
 fn feed<K: Kind>(slots: &mut [Slot<K::Record>], message: &Message) -> bool
     ensures after { watchings K.Kind.shows slots.new ≡ offered_if K.Kind.meaning (numbered (content message.now)) (watchings K.Kind.shows slots.old) }
     ensures answer { result ≡ moves_if K.Kind.meaning (numbered (content message.now)) (watchings K.Kind.shows slots.old) }
