@@ -1,6 +1,6 @@
 // Depth: five levels on each side.
 ghost use Rattle.std.proofs.Common.{ap};
-ghost use Rattle.kinds.specs.Levels.{numbers, ten};
+ghost use Rattle.kinds.specs.Levels.{numbers};
 ghost use Rattle.kinds.specs.Depth.{every, side_after};
 
 use crate::book::{BookOf, FiveLevels};
@@ -29,7 +29,10 @@ impl BookSide for FiveLevels {
         self.change(quote.delete, quote.insert, quote.into());
     }
 
-    ghost fits = { λ side. ten side.levels side.five };
+    #[tactic(auto, using(crate::specs::Levels::ten))]
+    fn fits(&self) {
+        self.has_five();
+    }
 
     ghost empty = { λ side default. ap numbers default };
 }
