@@ -123,7 +123,7 @@ impl<S: BookSide> Book<S> {
 }
 
 // The kind whose record is a book of two such sides.
-pub struct BookOf<S>(PhantomData<S>);
+pub struct BookOf<S>(pub(crate) PhantomData<S>);
 
 impl<S: BookSide> Kind for BookOf<S> {
     type Record = Book<S>;

@@ -6,9 +6,13 @@ ghost use Rattle.kinds.specs.Depth.{every, side_after};
 use crate::book::{BookOf, FiveLevels};
 use crate::side::BookSide;
 use messages::fields::QuoteFields;
+use std::marker::PhantomData;
 
 // The kind.
 pub type Depth = BookOf<FiveLevels>;
+
+// As that of a unit struct, its name is a value too.
+pub const Depth: Depth = BookOf(PhantomData);
 
 impl BookSide for FiveLevels {
     ghost width = { 10 };

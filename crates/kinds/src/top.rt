@@ -8,9 +8,13 @@ use crate::book::{BookOf, PriceLevel};
 use crate::side::BookSide;
 use codes::quote::Level;
 use messages::fields::QuoteFields;
+use std::marker::PhantomData;
 
 // The kind.
 pub type Top = BookOf<PriceLevel>;
+
+// As that of a unit struct, its name is a value too.
+pub const Top: Top = BookOf(PhantomData);
 
 impl BookSide for PriceLevel {
     ghost width = { 2 };
