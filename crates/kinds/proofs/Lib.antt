@@ -1,3 +1,4 @@
 pub mod Changes
+pub mod Fives
 pub mod Shown
 pub mod Rules

@@ -35,10 +35,9 @@ impl From<QuoteFields> for PriceLevel {
 #[derive(Clone, Copy, Debug, PartialEq, Eq)]
 pub struct FiveLevels {
     pub levels: [PriceLevel; 5],
-    pub ghost five: { length levels ≡ 5 },
 }
 
-// No level on the side. (A derive knows nothing of a ghost field.)
+// No level on the side, said of the whole list. (A derive says it of each element.)
 impl Default for FiveLevels {
     ghost is_default = { λ side. side.levels ≡ replicate 5 no_level };
 
@@ -50,15 +49,24 @@ impl Default for FiveLevels {
 }
 
 impl FiveLevels {
+    // Says to the check that a side has five levels, which it knows where one is read.
+    pub(crate) fn has_five(&self)
+        ensures { length self.now.levels ≡ 5 }
+    {
+        let _ = self.levels[0];
+    }
+
     // A level goes: those behind it move up, and the fifth place is free.
     fn remove(&mut self, level: Level)
-        ensures { take 4 self.new.levels ≡ removed (level_number level) self.old.levels }
+        ensures four { take 4 self.new.levels ≡ removed (level_number level) self.old.levels }
+        ensures five { length self.old.levels ≡ 5 }
     {
         let place = level as usize;
         self.levels[place..].rotate_left(1);
     }
 
     // A level comes in: those behind it move down, and what stood in the fifth place falls out.
+    #[tactic(auto, using(crate::proofs::Fives::turned_right))]
     fn insert(&mut self, level: Level, new: PriceLevel)
         ensures { self.new.levels ≡ inserted (level_number level) new (take 4 self.old.levels) }
     {
@@ -89,6 +97,7 @@ impl<S: BookSide> Book<S> {
     fn quote(&mut self, quote: QuoteFields)
         ensures { shown S.shows self.new ≡ after_quote S.width S.takes S.after quote (shown S.shows self.old) }
     {
+        self.bid.fits();
         if S::takes(quote) {
             match quote.side {
                 Side::Bid => self.bid.quote(quote),
@@ -101,6 +110,7 @@ impl<S: BookSide> Book<S> {
     fn clear(&mut self, form: EventForm)
         ensures { shown S.shows self.new ≡ cleared S.width form (shown S.shows self.old) }
     {
+        self.bid.fits();
         if let EventForm::Numbered { code, .. } = form {
             match code {
                 SeriesEvent::ClearOffer => self.offer = S::default(),
@@ -113,7 +123,7 @@ impl<S: BookSide> Book<S> {
 }
 
 // The kind whose record is a book of two such sides.
-pub struct BookOf<S>(PhantomData<S>);
+pub struct BookOf<S>(pub(crate) PhantomData<S>);
 
 impl<S: BookSide> Kind for BookOf<S> {
     type Record = Book<S>;

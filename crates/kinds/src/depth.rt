@@ -1,14 +1,18 @@
 // Depth: five levels on each side.
 ghost use Rattle.std.proofs.Common.{ap};
-ghost use Rattle.kinds.specs.Levels.{numbers, ten};
+ghost use Rattle.kinds.specs.Levels.{numbers};
 ghost use Rattle.kinds.specs.Depth.{every, side_after};
 
 use crate::book::{BookOf, FiveLevels};
 use crate::side::BookSide;
 use messages::fields::QuoteFields;
+use std::marker::PhantomData;
 
 // The kind.
 pub type Depth = BookOf<FiveLevels>;
+
+// As that of a unit struct, its name is a value too.
+pub const Depth: Depth = BookOf(PhantomData);
 
 impl BookSide for FiveLevels {
     ghost width = { 10 };
@@ -29,7 +33,10 @@ impl BookSide for FiveLevels {
         self.change(quote.delete, quote.insert, quote.into());
     }
 
-    ghost fits = { λ side. ten side.levels side.five };
+    #[tactic(auto, using(crate::specs::Levels::ten))]
+    fn fits(&self) {
+        self.has_five();
+    }
 
     ghost empty = { λ side default. ap numbers default };
 }

@@ -26,8 +26,10 @@ pub trait BookSide: Copy + Default {
     fn quote(&mut self, quote: QuoteFields)
         ensures { shows self.new ≡ after quote (shows self.old) };
 
-    // The laws: every side shows so many numbers, and a default one zeros.
-    ghost fits: { (side : Self) → length (shows side) ≡ width };
+    // Says to the check that the side shows so many numbers, which it knows of an array where an element is read.
+    fn fits(&self)
+        ensures { length (shows self.now) ≡ width };
 
+    // The law: a default side shows zeros.
     ghost empty: { (side : Self) → Self.is_default side → shows side ≡ replicate width 0 };
 }

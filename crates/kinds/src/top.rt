@@ -1,5 +1,5 @@
 // Top: the best level of each side.
-ghost use Rattle.std.specs.Prelude.{[], ◌∷◌, refl};
+ghost use Rattle.std.specs.Prelude.{[], ◌∷◌};
 ghost use Rattle.std.proofs.Common.{ap₂};
 ghost use Rattle.kinds.specs.Levels.{level_shown};
 ghost use Rattle.kinds.specs.Top.{of_top, best_after};
@@ -8,9 +8,13 @@ use crate::book::{BookOf, PriceLevel};
 use crate::side::BookSide;
 use codes::quote::Level;
 use messages::fields::QuoteFields;
+use std::marker::PhantomData;
 
 // The kind.
 pub type Top = BookOf<PriceLevel>;
+
+// As that of a unit struct, its name is a value too.
+pub const Top: Top = BookOf(PhantomData);
 
 impl BookSide for PriceLevel {
     ghost width = { 2 };
@@ -31,7 +35,7 @@ impl BookSide for PriceLevel {
         *self = quote.into();
     }
 
-    ghost fits = { λ side. refl };
+    fn fits(&self) {}
 
     ghost empty = { λ side default. ap₂ (λ price contracts. price ∷ contracts ∷ []) default.0 default.1 };
 }

@@ -1,9 +1,15 @@
 -- How the tests of a symbol step along its field.
-use Rattle.std.proofs.Common.{◌≡◌, ℕ, zero, suc, ◌+◌, ◌<◌, ◌≤◌, Bool, true, false, cond, ◌&&◌, eqb, leb, ◌↔◌, List, [], ◌∷◌, ◌++◌, length, get_or, drop, replicate, sym, refl, ap, ◌∙◌, arith}
+use Rattle.std.proofs.Common.{◌≡◌, ℕ, zero, suc, ◌+◌, ◌<◌, ◌≤◌, Bool, true, false, cond, ◌&&◌, eqb, leb, ◌↔◌, nat_eq, List, [], ◌∷◌, ◌++◌, length, get_or, drop, replicate, sym, refl, ap, ◌∙◌, arith}
 use Rattle.std.proofs.lemmas.Bool.{cond-true, cond-false, eqb-true, le-leb, leb-true, and_from, and_parts}
 use Rattle.std.proofs.lemmas.List.Folds.{length-prefix_len}
 use Rattle.std.proofs.lemmas.List.Sums.{prefix_len-le-length}
+use Rattle.std.proofs.lemmas.Bool.Decides.{Decides-eqb, same_from_decides}
+use Rattle.std.proofs.lemmas.Nat.{le_bytes_8}
+use Rattle.std.proofs.lemmas.Slice.Eq.{bytes_eq-Decides}
+use Rattle.std.specs.Bool.{Decides}
+use Rattle.std.specs.Int.{from_le_bytes, to_le_bytes, w64}
 use Rattle.std.specs.List.{list_all, prefix_len, take_while}
+use Rattle.std.specs.Str.{bytes_eq}
 use Rattle.messages.specs.Layout.{Symbol}
 use Rattle.messages.specs.Symbols.{printable, padded, nulls, well_formed}
 
@@ -99,3 +105,13 @@ symbol_from (b ∷ bs) eight h =
 -- an answer that is the test's says whether the field is a symbol
 pub symbol_law : (field : List ℕ) (r : Bool) → r ≡ well_formed field → length field ≡ 8 → (r ≡ true) ↔ Symbol field
 symbol_law field r test eight = (λ e. symbol_from field eight (sym test ∙ e), λ s. test ∙ symbol_passes field s)
+
+-- two symbols are the same where the numbers in their bytes are
+pub same_number : (a b : List ℕ) → length a ≡ 8 → length b ≡ 8 → ((i : ℕ) → get_or a i 0 < 256) → ((i : ℕ) → get_or b i 0 < 256) → (m n : ℕ) → m ≡ from_le_bytes w64 a → n ≡ from_le_bytes w64 b → nat_eq m n ≡ bytes_eq a b
+same_number a b a8 b8 as_bytes bs_bytes m n of_a of_b = same_from_decides (nat_eq m n) (bytes_eq a b) decides (bytes_eq-Decides a b)
+  where
+    decides : Decides (nat_eq m n) (a ≡ b)
+    decides = (
+      λ e. sym (le_bytes_8 a m a8 as_bytes of_a) ∙ ap (to_le_bytes w64) ((Decides-eqb m n).0 e) ∙ le_bytes_8 b n b8 bs_bytes of_b,
+      λ e. (Decides-eqb m n).1 (of_a ∙ ap (from_le_bytes w64) e ∙ sym of_b),
+    )

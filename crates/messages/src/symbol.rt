@@ -1,8 +1,9 @@
 // Option symbols: 1 to 8 bytes from 33 to 126, and then nulls to the end of the field.
 ghost use Rattle.std.specs.Prelude.{◌≡◌, true, ◌↔◌, [], length, ◌==◌};
 ghost use Rattle.std.specs.List.{list_all, take_while};
+ghost use Rattle.std.specs.Str.{bytes_eq};
 ghost use Rattle.messages.specs.Layout.{Symbol as SymbolField};
-ghost use Rattle.messages.specs.Symbols.{printable, padded, well_formed, bad_from};
+ghost use Rattle.messages.specs.Symbols.{printable, padded, well_formed, among, bad_from};
 ghost use Rattle.messages.specs.Verdict.{nameable};
 
 use crate::numbers::in_range;
@@ -64,10 +65,25 @@ pub fn is_nameable(number: u32, symbol: &Symbol) -> bool
     in_range(number) && is_symbol(symbol)
 }
 
+// Whether two symbols are the same. Compared as one number: `==` of arrays goes byte by byte.
+#[tactic(auto, using(crate::proofs::Symbols::same_number))]
+fn is_same(symbol: &Symbol, other: &Symbol) -> bool
+    ensures { result ≡ bytes_eq symbol.now other.now }
+{
+    u64::from_le_bytes(*symbol) == u64::from_le_bytes(*other)
+}
+
+// Whether a symbol is among some.
+fn is_among(symbol: &Symbol, symbols: &[Symbol]) -> bool
+    ensures { result ≡ among symbol.now symbols.now }
+{
+    symbols.iter().any(|other| is_same(other, symbol))
+}
+
 // The index of the first symbol that is malformed, or stands before it too.
 pub fn first_bad(symbols: &[Symbol]) -> Option<usize>
     ensures { result ≡ bad_from [] 0 symbols.now }
 {
     symbols.iter().enumerate().position(|(i, symbol)| !is_well_formed(symbol)
-        || symbols[..i].contains(symbol))
+        || is_among(symbol, &symbols[..i]))
 }

@@ -127,6 +127,12 @@ module _ (K : Meaning) where
     run_right (hear {came = came} n r e) x =
         subst (λ (l : List Numbered). Right K (within x sent) (after K l (fresh K))) (sym (brought-append x came (heartbeat n ∷ []) ∙ append-nil (brought x came))) (run_right r x)
 
+    -- a session keeps its watch list
+    pub run_watch : {came : List Arrival} {s : State} → Run K sent watch came s → watch_list s ≡ watch
+    run_watch (begun {p = p} s i one st w e) = ap watch_list e ∙ arrived_watch s p ∙ w
+    run_watch (deliver {s = s} {p = p} r i e) = ap watch_list e ∙ arrived_watch s p ∙ run_watch r
+    run_watch (hear n r e) = ap watch_list e ∙ run_watch r
+
 -- what is shown of a slot, if there is one
 abbrev shown_if : Option Slot → Result View Returned
 shown_if None = Err (alone 11)

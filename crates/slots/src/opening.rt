@@ -8,7 +8,8 @@ ghost use Rattle.slots.specs.Slots.{watchings};
 use crate::slot::Slot;
 use codes::refusal::Refusal;
 use kinds::kind::Kind;
-use messages::symbol::{MOST_SYMBOLS, Symbol, first_bad};
+pub use messages::symbol::MOST_SYMBOLS;
+use messages::symbol::{Symbol, first_bad};
 
 // Whether these symbols can be watched in these slots, or refusal 10: at 1,024 for more symbols than that, at the first
 // malformed or repeated one, at 0 where there are not as many slots.
