@@ -123,6 +123,7 @@ impl<S: BookSide> Book<S> {
 }
 
 // The kind whose record is a book of two such sides.
+#[derive(Clone, Copy, Debug, PartialEq, Eq)]
 pub struct BookOf<S>(pub(crate) PhantomData<S>);
 
 impl<S: BookSide> Kind for BookOf<S> {

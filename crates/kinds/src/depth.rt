@@ -11,7 +11,7 @@ use std::marker::PhantomData;
 // The kind.
 pub type Depth = BookOf<FiveLevels>;
 
-// As that of a unit struct, its name is a value too.
+// The name stands for a value too, as that of a unit struct does.
 pub const Depth: Depth = BookOf(PhantomData);
 
 impl BookSide for FiveLevels {

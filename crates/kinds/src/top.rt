@@ -13,7 +13,7 @@ use std::marker::PhantomData;
 // The kind.
 pub type Top = BookOf<PriceLevel>;
 
-// As that of a unit struct, its name is a value too.
+// The name stands for a value too, as that of a unit struct does.
 pub const Top: Top = BookOf(PhantomData);
 
 impl BookSide for PriceLevel {

@@ -1,8 +1,29 @@
 -- The first symbol of a list that is malformed or stands before it too.
-use Rattle.std.proofs.Common.{◌≡◌, ℕ, zero, suc, ◌+◌, ◌<◌, ◌≤◌, Bool, true, false, cond, not, ◌&&◌, List, [], ◌∷◌, ◌++◌, length, get_or, take, drop, Some, None, Option, unwrap_or, sym, refl, ap, ◌∙◌, ap₂, ⊎_elim, arith}
-use Rattle.std.proofs.lemmas.List.{drop_more, drop_all, take_more}
+use Rattle.std.proofs.Common.{◌≡◌, ℕ, zero, suc, ◌+◌, ◌*◌, ◌<◌, ◌≤◌, Bool, true, false, cond, not, ◌&&◌, ◌||◌, List, [], ◌∷◌, ◌++◌, length, get_or, take, drop, Some, None, Option, unwrap_or, sym, refl, ap, ◌∙◌, ap₂, ⊎_elim, arith}
+use Rattle.std.specs.List.{list_any}
+use Rattle.std.specs.Int.{to_le_bytes, w64}
+use Rattle.std.specs.Str.{bytes_eq}
+use Rattle.std.specs.Simd.{first_chunks}
+use Rattle.std.proofs.Math.Bool.{or_assoc}
+use Rattle.std.proofs.lemmas.List.{drop_more, drop_all, take_more, drop-drop, take-append-drop}
+use Rattle.std.proofs.lemmas.List.Folds.{list_any-append}
 use Rattle.std.proofs.lemmas.Bool.{cond-true, cond-false, cases_lt}
 use Rattle.messages.specs.Symbols.{well_formed, among, bad_from}
+
+-- a test of every four, and of those behind them, is one of all
+pub among_chunks : {X : Type 0} (p : X → Bool) (k : ℕ) (xs : List X) → (list_any (λ four. list_any p four) (first_chunks 4 k xs) || list_any p (drop (k * 4) xs)) ≡ list_any p xs
+among_chunks p zero xs = refl
+among_chunks p (suc k) xs =
+    let four : 4 + k * 4 ≡ suc k * 4 = omega arith in
+    let more : drop (suc k * 4) xs ≡ drop (k * 4) (drop 4 xs) = sym (drop-drop (k * 4) 4 xs ∙ ap (λ n. drop n xs) four) in
+    or_assoc (list_any p (take 4 xs)) (list_any (λ four. list_any p four) (first_chunks 4 k (drop 4 xs))) _
+    ∙ ap (λ b. list_any p (take 4 xs) || b) (ap (λ l. list_any (λ four. list_any p four) (first_chunks 4 k (drop 4 xs)) || list_any p l) more ∙ among_chunks p k (drop 4 xs))
+    ∙ sym (list_any-append p (take 4 xs) (drop 4 xs))
+    ∙ ap (list_any p) (take-append-drop 4 xs)
+
+pub among_fours : (symbol : List ℕ) (symbols rest : List (List ℕ)) (fours : List (List (List ℕ))) (n k : ℕ) (a b : Bool) → to_le_bytes w64 n ≡ symbol → fours ≡ first_chunks 4 k symbols → rest ≡ drop (k * 4) symbols → a ≡ list_any (λ four. list_any (λ s. bytes_eq s (to_le_bytes w64 n)) four) fours → b ≡ list_any (λ s. bytes_eq s (to_le_bytes w64 n)) rest → (a || b) ≡ among symbol symbols
+among_fours symbol symbols rest fours n k a b of_number front back in_fours in_rest =
+    rw (in_fours, in_rest, front, back) (among_chunks (λ s. bytes_eq s (to_le_bytes w64 n)) k symbols ∙ ap (λ x. among x symbols) of_number)
 
 module _ (xs : List (List ℕ)) where
   -- the symbol at an index is well formed, and none of those before it

@@ -1,10 +1,10 @@
 -- How the tests of a symbol step along its field.
-use Rattle.std.proofs.Common.{◌≡◌, ℕ, zero, suc, ◌+◌, ◌<◌, ◌≤◌, Bool, true, false, cond, ◌&&◌, eqb, leb, ◌↔◌, nat_eq, List, [], ◌∷◌, ◌++◌, length, get_or, drop, replicate, sym, refl, ap, ◌∙◌, arith}
+use Rattle.std.proofs.Common.{◌≡◌, ℕ, zero, suc, ◌+◌, ◌^◌, ◌<◌, ◌≤◌, Bool, true, false, cond, ◌&&◌, eqb, leb, ◌↔◌, nat_eq, List, [], ◌∷◌, ◌++◌, length, get_or, drop, replicate, sym, refl, ap, ◌∙◌, arith}
 use Rattle.std.proofs.lemmas.Bool.{cond-true, cond-false, eqb-true, le-leb, leb-true, and_from, and_parts}
 use Rattle.std.proofs.lemmas.List.Folds.{length-prefix_len}
 use Rattle.std.proofs.lemmas.List.Sums.{prefix_len-le-length}
 use Rattle.std.proofs.lemmas.Bool.Decides.{Decides-eqb, same_from_decides}
-use Rattle.std.proofs.lemmas.Nat.{le_bytes_8}
+use Rattle.std.proofs.lemmas.Nat.{le_bytes_8, from_le_bytes-to_le_bytes_8}
 use Rattle.std.proofs.lemmas.Slice.Eq.{bytes_eq-Decides}
 use Rattle.std.specs.Bool.{Decides}
 use Rattle.std.specs.Int.{from_le_bytes, to_le_bytes, w64}
@@ -106,12 +106,16 @@ symbol_from (b ∷ bs) eight h =
 pub symbol_law : (field : List ℕ) (r : Bool) → r ≡ well_formed field → length field ≡ 8 → (r ≡ true) ↔ Symbol field
 symbol_law field r test eight = (λ e. symbol_from field eight (sym test ∙ e), λ s. test ∙ symbol_passes field s)
 
--- two symbols are the same where the numbers in their bytes are
-pub same_number : (a b : List ℕ) → length a ≡ 8 → length b ≡ 8 → ((i : ℕ) → get_or a i 0 < 256) → ((i : ℕ) → get_or b i 0 < 256) → (m n : ℕ) → m ≡ from_le_bytes w64 a → n ≡ from_le_bytes w64 b → nat_eq m n ≡ bytes_eq a b
-same_number a b a8 b8 as_bytes bs_bytes m n of_a of_b = same_from_decides (nat_eq m n) (bytes_eq a b) decides (bytes_eq-Decides a b)
-  where
-    decides : Decides (nat_eq m n) (a ≡ b)
-    decides = (
-      λ e. sym (le_bytes_8 a m a8 as_bytes of_a) ∙ ap (to_le_bytes w64) ((Decides-eqb m n).0 e) ∙ le_bytes_8 b n b8 bs_bytes of_b,
-      λ e. (Decides-eqb m n).1 (of_a ∙ ap (from_le_bytes w64) e ∙ sym of_b),
-    )
+-- A symbol and the number in its bytes.
+module _ (symbol : List ℕ) (eight : length symbol ≡ 8) (bytes : (i : ℕ) → get_or symbol i 0 < 256) where
+  pub back : (n : ℕ) → n ≡ from_le_bytes w64 symbol → to_le_bytes w64 n ≡ symbol
+  back n is = le_bytes_8 symbol n eight bytes is
+
+  pub of_number : (m n : ℕ) → m ≡ from_le_bytes w64 symbol → n < 2 ^ 64 → nat_eq m n ≡ bytes_eq symbol (to_le_bytes w64 n)
+  of_number m n is fits = same_from_decides (nat_eq m n) (bytes_eq symbol (to_le_bytes w64 n)) decides (bytes_eq-Decides symbol (to_le_bytes w64 n))
+    where
+      decides : Decides (nat_eq m n) (symbol ≡ to_le_bytes w64 n)
+      decides = (
+        λ e. sym (back m is) ∙ ap (to_le_bytes w64) ((Decides-eqb m n).0 e),
+        λ e. (Decides-eqb m n).1 (is ∙ ap (from_le_bytes w64) e ∙ from_le_bytes-to_le_bytes_8 n fits),
+      )

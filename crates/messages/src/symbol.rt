@@ -1,6 +1,7 @@
 // Option symbols: 1 to 8 bytes from 33 to 126, and then nulls to the end of the field.
 ghost use Rattle.std.specs.Prelude.{◌≡◌, true, ◌↔◌, [], length, ◌==◌};
-ghost use Rattle.std.specs.List.{list_all, take_while};
+ghost use Rattle.std.specs.List.{list_all, list_any, take_while};
+ghost use Rattle.std.specs.Int.{to_le_bytes, w64};
 ghost use Rattle.std.specs.Str.{bytes_eq};
 ghost use Rattle.messages.specs.Layout.{Symbol as SymbolField};
 ghost use Rattle.messages.specs.Symbols.{printable, padded, well_formed, among, bad_from};
@@ -65,19 +66,43 @@ pub fn is_nameable(number: u32, symbol: &Symbol) -> bool
     in_range(number) && is_symbol(symbol)
 }
 
-// Whether two symbols are the same. Compared as one number: `==` of arrays goes byte by byte.
-#[tactic(auto, using(crate::proofs::Symbols::same_number))]
-fn is_same(symbol: &Symbol, other: &Symbol) -> bool
-    ensures { result ≡ bytes_eq symbol.now other.now }
+// The bytes of a symbol as one number.
+#[tactic(auto, using(crate::proofs::Symbols::back))]
+fn number_of(symbol: &Symbol) -> u64
+    ensures { to_le_bytes w64 result ≡ symbol.now }
 {
-    u64::from_le_bytes(*symbol) == u64::from_le_bytes(*other)
+    u64::from_le_bytes(*symbol)
 }
 
-// Whether a symbol is among some.
+// Whether a symbol has this number.
+#[tactic(auto, using(crate::proofs::Symbols::of_number))]
+fn has_number(symbol: &Symbol, number: u64) -> bool
+    ensures { result ≡ bytes_eq symbol.now (to_le_bytes w64 number) }
+{
+    u64::from_le_bytes(*symbol) == number
+}
+
+// Whether one of these symbols has this number.
+fn has_any(symbols: &[Symbol], number: u64) -> bool
+    ensures { result ≡ list_any (λ symbol. bytes_eq symbol (to_le_bytes w64 number)) symbols.now }
+{
+    symbols.iter().any(|symbol| has_number(symbol, number))
+}
+
+// The same of symbols in fours.
+fn has_any_of(fours: &[[Symbol; 4]], number: u64) -> bool
+    ensures { result ≡ list_any (λ four. list_any (λ symbol. bytes_eq symbol (to_le_bytes w64 number)) four) fours.now }
+{
+    fours.iter().any(|four| has_any(four, number))
+}
+
+// Whether a symbol is among some: by its number, since `==` of arrays goes byte by byte, and four at a time.
 fn is_among(symbol: &Symbol, symbols: &[Symbol]) -> bool
     ensures { result ≡ among symbol.now symbols.now }
 {
-    symbols.iter().any(|other| is_same(other, symbol))
+    let number = number_of(symbol);
+    let (fours, rest) = symbols.as_chunks::<4>();
+    has_any_of(fours, number) | has_any(rest, number)
 }
 
 // The index of the first symbol that is malformed, or stands before it too.
