@@ -14,6 +14,8 @@ use slots::slot::Slot;
 #[cfg(test)]
 mod deliveries;
 #[cfg(test)]
+mod levels;
+#[cfg(test)]
 mod made;
 
 // Two packets of a subscription, delivered to slots that are lent for as long.
